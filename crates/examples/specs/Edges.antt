@@ -1,0 +1,10 @@
+-- The table of edges, beside that of P1 to P12.
+use mathlib.Core.List.{List, _++_}
+use Rattle.examples.specs.Probes.{Case}
+use Rattle.examples.specs.Errors.{errors}
+use Rattle.examples.specs.Refusals.{refusals}
+use Rattle.examples.specs.Effects.{effects}
+use Rattle.examples.specs.Ticks.{ticking}
+
+unfoldable pub edges : List Case
+edges = errors ++ refusals ++ effects ++ ticking

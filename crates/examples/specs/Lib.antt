@@ -1,0 +1,12 @@
+pub mod Asking
+pub mod Probes
+pub mod Cases
+pub mod Errors
+pub mod Refusals
+pub mod Effects
+pub mod Ticks
+pub mod Edges
+pub mod Replays
+pub mod Busy
+pub mod Damages
+pub mod Stored

@@ -1,0 +1,13 @@
+pub mod State
+pub mod Parts
+pub mod Ranges
+pub mod Words
+pub mod Sound
+pub mod Answers
+pub mod Calls
+pub mod Effects
+pub mod Tick
+pub mod Time
+pub mod Kernel
+pub mod Layout
+pub mod Replay
