@@ -1,20 +1,11 @@
--- Every example holds, by computation from `call` and `replay` alone: one statement for P1 to P12, one for the edges, one for the
--- replay files.
+-- Every example holds, by computation from the model alone: one statement for P1 to P12, one for the edges, one for the replay files;
+-- then what is sound and what isn't.
 use mathlib.Core.Path.{_≡_, refl}
 use mathlib.Core.Bool.{true}
-use Rattle.sequences.specs.Lists.{every-below, some-below}
-use Rattle.sequences.specs.Steps.{in-order, ticks, wakeups}
-use Rattle.model.specs.State.{fresh}
-use Rattle.model.specs.Words.{owns-any, leave, enter-tail, enter-ready, rank, enter-by-priority, become-ready, suspend, start-to-wait, start-to-sleep, wake, re-enter, take-priority, settle, choose}
-use Rattle.model.specs.Sound.{shaped, thread-in-range, semaphore-in-range, mutex-in-range, flags-in-range, timer-in-range, ids-in-range, fields-in-range, each-on-one-list, absent-threads-zero, ready-by-priority, wait-lists-fall, currents-fit, awaited-semaphores-empty, counts-within-maximum, unowned-written-zero, awaited-mutexes-owned, owners-created, owners-wait-elsewhere, conditions-unmet, flag-waiters-masked, timers-within-period, unused-timers-zero, actions-fit, sleepers-limited, others-unlimited, others-maskless, waits-without-result, quanta-fit, absent-semaphores-zero, absent-mutexes-zero, absent-flags-zero, choice-fits, clauses, sound-but-choice, sound}
-use Rattle.model.specs.Calls.{calls, numbered, answers}
-use Rattle.model.specs.Effects.{create-thread-effect, start-effect, stop-effect, exit-effect, yield-effect, sleep-effect, set-priority-effect, set-quantum-effect, create-semaphore-effect, pend-effect, post-to, post-semaphore, post-effect, create-mutex-effect, raise, claim-effect, hand-over, fall, release-effect, create-flags-effect, wait-effect, wake-each, change-word, set-flags, set-effect, clear-effect, start-timer-effect, stop-timer-effect, act, scheduling-effect}
-use Rattle.model.specs.Tick.{clock-step, quantum-counts, quantum-ends, quantum-step, timer-tick, timer-step, limit-tick, limit-step, before-limits, tick, timer-ends, limit-ends, wakes}
-use Rattle.model.specs.Time.{next}
-use Rattle.model.specs.Kernel.{accept, judge, answer, perform, next-state, call}
-use Rattle.model.specs.Layout.{view, lay-table, lay-rows, orderly, sound-table, call-by, call-table, fresh-table, fresh-rows}
-use Rattle.model.specs.Replay.{lines-from, replay}
 use Rattle.sequences.specs.Lists.{every}
+use Rattle.model.specs.Sound.{sound}
+use Rattle.model.specs.Layout.{lay-table, lay-rows, sound-table}
+use Rattle.examples.proofs.Opened.{model}
 use Rattle.examples.specs.Probes.{look, steps-right, right, after-calls}
 use Rattle.examples.specs.Cases.{cases}
 use Rattle.examples.specs.Errors.{errors}
@@ -24,13 +15,8 @@ use Rattle.examples.specs.Ticks.{ticking}
 use Rattle.examples.specs.Edges.{edges}
 use Rattle.examples.specs.Replays.{plays-right, replays}
 use Rattle.examples.specs.Busy.{busy}
-use Rattle.examples.specs.Damages.{damages, break-only}
+use Rattle.examples.specs.Damages.{breaks-only, break-each, damages, undamaged}
 use Rattle.examples.specs.Stored.{disorders, refused-stored}
-
--- what opens this opens the whole model
-model : Unit {0}
-unfolding every-below some-below in-order ticks wakeups fresh owns-any leave enter-tail enter-ready rank enter-by-priority become-ready suspend start-to-wait start-to-sleep wake re-enter take-priority settle choose shaped thread-in-range semaphore-in-range mutex-in-range flags-in-range timer-in-range ids-in-range fields-in-range each-on-one-list absent-threads-zero ready-by-priority wait-lists-fall currents-fit awaited-semaphores-empty counts-within-maximum unowned-written-zero awaited-mutexes-owned owners-created owners-wait-elsewhere conditions-unmet flag-waiters-masked timers-within-period unused-timers-zero actions-fit sleepers-limited others-unlimited others-maskless waits-without-result quanta-fit absent-semaphores-zero absent-mutexes-zero absent-flags-zero choice-fits clauses sound-but-choice sound calls numbered answers create-thread-effect start-effect stop-effect exit-effect yield-effect sleep-effect set-priority-effect set-quantum-effect create-semaphore-effect pend-effect post-to post-semaphore post-effect create-mutex-effect raise claim-effect hand-over fall release-effect create-flags-effect wait-effect wake-each change-word set-flags set-effect clear-effect start-timer-effect stop-timer-effect act scheduling-effect clock-step quantum-counts quantum-ends quantum-step timer-tick timer-step limit-tick limit-step before-limits tick timer-ends limit-ends wakes next accept judge answer perform next-state call view lay-table lay-rows orderly sound-table call-by call-table fresh-table fresh-rows lines-from replay
-model = tt
 
 pub cases-hold : every right cases ≡ true
 unfolding model cases right steps-right look
@@ -44,14 +30,18 @@ pub replays-hold : every plays-right replays ≡ true
 unfolding model replays plays-right
 replays-hold = refl
 
--- the busy table is sound, and each clause of soundness is broken by a damage that breaks no other
-pub busy-sound : sound busy ≡ true
-unfolding model busy after-calls
-busy-sound = refl
+-- soundness: what is sound, and for each clause what breaks it and no other
+pub undamaged-sound : every sound undamaged ≡ true
+unfolding model undamaged busy after-calls
+undamaged-sound = refl
 
-pub damages-refused : break-only 0 damages ≡ true
-unfolding model damages break-only busy after-calls
+pub damages-refused : every breaks-only damages ≡ true
+unfolding model damages breaks-only busy after-calls
 damages-refused = refl
+
+pub damages-complete : break-each damages ≡ true
+unfolding model damages break-each busy after-calls
+damages-complete = refl
 
 -- stored it is sound too, and a list out of order is refused
 pub busy-stored-sound : sound-table (lay-table busy) (lay-rows busy) ≡ true

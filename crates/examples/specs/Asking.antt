@@ -1,4 +1,5 @@
--- Requests under the names of their calls, with the fields that a call uses.
+-- Requests under the names of their calls (01, Calls), with the fields that a call uses; those it doesn't are 0. `ask` takes any six
+-- numbers, for calls that are to be refused.
 use Prim.Native.Nat.{ℕ, _+_, _*_}
 use Rattle.model.specs.declared.requests.Request.{Request}
 

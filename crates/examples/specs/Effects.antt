@@ -2,7 +2,7 @@
 -- 2 the wait list of semaphore 0, 10 that of mutex 0, 14 that of flag object 0.
 use mathlib.Core.List.{List, [], _∷_}
 use Rattle.model.specs.State.{fresh}
-use Rattle.examples.specs.Asking.{create-thread, start, stop, exit, yield, sleep, set-priority, set-quantum, create-semaphore, pend, post, create-mutex, claim, release, create-flags, wait, clear, advance}
+use Rattle.examples.specs.Asking.{create-thread, start, stop, exit, yield, sleep, set-priority, set-quantum, create-semaphore, pend, post, create-mutex, claim, release, create-flags, wait, set, clear, advance}
 use Rattle.examples.specs.Probes.{Case, _is_, _gives_then_, end, answer, chosen, clock, wakeups, next, base, current, quantum, left, limit, result, mask, mode, delivered, count, owner, word, ready-at, list-length, list-at}
 
 unfoldable pub effects : List Case
@@ -65,7 +65,7 @@ effects =
           advance 5 gives answer is 0 ∷ result 1 is 2 ∷ chosen is 1 ∷ list-length 10 is 0 ∷ limit 1 is 0 ∷ [] then
           end;
     }
-    -- a raised owner that waits re-enters its wait list; one that sleeps only has its number changed; a raise is one link long
+    -- a raised owner that waits re-enters its wait list
     ∷ record {
       from = fresh;
       steps =
@@ -209,6 +209,43 @@ effects =
           start 0 gives answer is 0 ∷ result 0 is 1 ∷ [] then
           pend 0 3 gives answer is 10 ∷ result 0 is 0 ∷ [] then
           advance 3 gives answer is 0 ∷ result 0 is 2 ∷ [] then
+          end;
+    }
+    -- a raise is one link long: 2 raises 1, who waits for 0's mutex, and 0 stays as it was
+    ∷ record {
+      from = fresh;
+      steps =
+          create-mutex 0 gives answer is 0 ∷ [] then
+          create-mutex 1 gives answer is 0 ∷ [] then
+          create-thread 0 2 0 gives answer is 0 ∷ [] then
+          create-thread 1 3 0 gives answer is 0 ∷ [] then
+          create-thread 2 6 0 gives answer is 0 ∷ [] then
+          start 0 gives answer is 0 ∷ [] then
+          claim 0 0 gives answer is 0 ∷ [] then
+          start 1 gives answer is 0 ∷ [] then
+          claim 1 0 gives answer is 0 ∷ [] then
+          claim 0 0 gives answer is 10 ∷ current 0 is 3 ∷ [] then
+          start 2 gives answer is 0 ∷ chosen is 2 ∷ [] then
+          claim 1 0 gives answer is 10 ∷ current 1 is 6 ∷ current 0 is 3 ∷ list-at 10 0 is 1 ∷ chosen is 0 ∷ [] then
+          release 0 gives answer is 0 ∷ chosen is 1 ∷ current 0 is 2 ∷ owner 0 is 1 ∷ ready-at 6 0 is 1 ∷ [] then
+          end;
+    }
+    -- a set wakes two of three, in list order, each with the new word; any set and all set
+    ∷ record {
+      from = fresh;
+      steps =
+          create-flags 0 0x0010 gives answer is 0 ∷ [] then
+          create-thread 0 5 0 gives answer is 0 ∷ [] then
+          create-thread 1 4 0 gives answer is 0 ∷ [] then
+          create-thread 2 4 0 gives answer is 0 ∷ [] then
+          start 0 gives answer is 0 ∷ [] then
+          wait 0 0x0007 1 0 gives answer is 10 ∷ [] then
+          start 1 gives answer is 0 ∷ [] then
+          wait 0 0x0006 0 0 gives answer is 10 ∷ [] then
+          start 2 gives answer is 0 ∷ [] then
+          wait 0 0x0012 1 0 gives answer is 10 ∷ list-length 14 is 3 ∷ [] then
+          set 0 0x0002 gives answer is 0 ∷ word 0 is 0x0012 ∷ ready-at 4 0 is 1 ∷ ready-at 4 1 is 2 ∷ delivered 1 is 0x0012 ∷ delivered 2 is 0x0012 ∷ delivered 0 is 0 ∷ list-at 14 0 is 0 ∷ list-length 14 is 1 ∷ chosen is 1 ∷ [] then
+          set 0 0x0005 gives answer is 0 ∷ word 0 is 0x0017 ∷ delivered 0 is 0x0017 ∷ chosen is 0 ∷ list-length 14 is 0 ∷ [] then
           end;
     }
     ∷ []

@@ -1,4 +1,5 @@
--- 01, Errors a good programmer would make here: a case for each of the five, which a kernel with that error fails.
+-- 01, Errors a good programmer would make here: a case for each of the five, in its order. A kernel with that error fails the
+-- case.
 use mathlib.Core.List.{List, [], _∷_}
 use Rattle.model.specs.State.{fresh}
 use Rattle.examples.specs.Asking.{create-thread, start, sleep, create-flags, wait, start-timer, advance}

@@ -1,4 +1,5 @@
--- An example as data: a table to start from, calls, and after each call what is looked at and the number expected there.
+-- An example as data: a table to start from, calls, and after each call what is looked at and the number expected there. Everything is
+-- seen through `call`: the reply, and the table that it hands back.
 use mathlib.Core.Bool.{Bool, true, _&&_}
 use mathlib.Core.List.{List, [], _∷_}
 use Prim.Native.Nat.{ℕ}

@@ -1,4 +1,5 @@
--- Refusals at the edges: the two unmarked examples of 01, and cases that tell apart two ways to read it (docs/DECISIONS.md).
+-- Refusals at the edges: the two unmarked examples of 01, and cases that tell apart two ways to read it (docs/DECISIONS.md): ranges,
+-- unused fields, and which of several faults is answered.
 use mathlib.Core.List.{List, [], _∷_}
 use Rattle.model.specs.State.{fresh}
 use Rattle.model.specs.Parts.{with-clock, with-chosen, alter-mutex, with-owner}

@@ -1,4 +1,5 @@
--- 01, Replay file: its whole example, and where a file ends: with a last record, before the first, in the middle of one, at a wrong mark.
+-- 01, Replay file: its whole example, and where a file ends: with a last record, before the first, in the middle of one, at a wrong
+-- mark. The lines are compared as numbers.
 use mathlib.Core.Bool.{Bool, true, false, _&&_}
 use mathlib.Core.List.{List, [], _∷_, _++_}
 use Prim.Native.Nat.{ℕ}

@@ -1,8 +1,10 @@
--- Ticks at the edges: quanta, timers and scheduling off; cases that tell apart two ways to read 01 (docs/DECISIONS.md).
+-- 01, One tick: quanta, timers and scheduling off at the edges; cases that tell apart two ways to read it (docs/DECISIONS.md). What is
+-- said of wake-ups and of the next one is expected here too.
 use mathlib.Core.List.{List, [], _∷_}
 use Rattle.model.specs.State.{fresh}
+use Rattle.model.specs.Parts.{alter-timer, with-time}
 use Rattle.examples.specs.Asking.{create-thread, start, yield, sleep, set-priority, create-semaphore, create-flags, start-timer, stop-timer, scheduling, advance}
-use Rattle.examples.specs.Probes.{Case, _is_, _gives_then_, end, answer, chosen, clock, wakeups, next, left, count, word, timer-left, expiries, ready-length, ready-at}
+use Rattle.examples.specs.Probes.{Case, _is_, _gives_then_, end, answer, chosen, clock, wakeups, next, left, count, word, timer-left, expiries, ready-length, ready-at, after-calls}
 
 unfoldable pub ticking : List Case
 ticking =
@@ -72,6 +74,14 @@ ticking =
           start-timer 6 2 1 0 0 0 gives answer is 0 ∷ [] then
           stop-timer 6 gives answer is 0 ∷ [] then
           advance 10 gives answer is 0 ∷ wakeups is 1 ∷ word 3 is 1 ∷ expiries 6 is 0 ∷ next is 0 ∷ [] then
+          end;
+    }
+    -- an expiry count goes round as the clock does
+    ∷ record {
+      from = alter-timer 0 (with-time 1 4294967295) (after-calls fresh (start-timer 0 3 1 0 0 0 ∷ []));
+      steps =
+          advance 1 gives answer is 0 ∷ expiries 0 is 0 ∷ timer-left 0 is 3 ∷ [] then
+          advance 3 gives answer is 0 ∷ expiries 0 is 1 ∷ [] then
           end;
     }
     ∷ []

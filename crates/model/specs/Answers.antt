@@ -1,4 +1,5 @@
--- 01, Answers: what number each case of `Answer` stands for, what is reported beside it, and which of several is given.
+-- 01, Answers: what number each case of `Answer` stands for, what is reported beside it, and which of several is given. When each is
+-- due is said call by call in Calls.antt.
 use mathlib.Core.Bool.{Bool, cond, _||_}
 use mathlib.Core.List.{List, [], _∷_}
 use Prim.Native.Nat.{ℕ}
@@ -32,10 +33,6 @@ report a s wakeups next =
     cond (eqb (number a) 1)
     (record { answer = a; chosen = nobody; clock = 0; wakeups = 0; next = 0 })
     (record { answer = a; chosen = s .chosen; clock = s .clock; wakeups = wakeups; next = next })
-
--- the five numbers of a report, as 01 has them: answer, chosen, clock, wake-ups, next wake-up
-abbrev pub values : Report → List ℕ
-values r = number (r .answer) ∷ r .chosen ∷ r .clock ∷ r .wakeups ∷ r .next ∷ []
 
 -- ---- an answer, and when it is due
 

@@ -1,4 +1,5 @@
--- 01, Calls: the calls by number, and for each the answers it can give, in the order in which they are tested.
+-- 01, Calls: the calls by number, and for each the answers it can give, in the order in which they are tested. What an accepted call
+-- does is said in Effects.antt.
 use mathlib.Core.Bool.{Bool, true, not, _&&_}
 use mathlib.Core.List.{List, [], _∷_}
 use mathlib.Core.Option.{Option, none}

@@ -1,4 +1,5 @@
--- A whole call, for any table and any request: 01, Answers, and 01, Calls, from the test of soundness to the reply.
+-- A whole call, for any table and any request: 01, Answers, and 01, Calls, from the test of soundness to the reply. Nothing is decided
+-- here that isn't said in Sound, Calls, Effects, Words or Time; this file puts them in order.
 use mathlib.Core.Bool.{Bool, true, false, cond, _&&_}
 use mathlib.Core.Option.{Option, none, some}
 use Prim.Native.Nat.{ℕ}

@@ -10,11 +10,11 @@ use Rattle.model.specs.declared.tables.IdList.{IdList}
 use Rattle.model.specs.declared.tables.Table.{Table}
 use Rattle.model.specs.declared.requests.Request.{Request}
 use Rattle.model.specs.declared.answers.Answer.the-variants.{Unsound}
-use Rattle.model.specs.declared.answers.Report.{Report}
+use Rattle.model.specs.declared.answers.Reply.{Reply}
 use Rattle.model.specs.State.{State, places, thread-count, semaphore-count, mutex-count, flags-count, timer-count, priority-count, list-count, fresh}
 use Rattle.model.specs.Sound.{each-priority, sound}
 use Rattle.model.specs.Answers.{report}
-use Rattle.model.specs.Kernel.{call}
+use Rattle.model.specs.Kernel.{Outcome, call}
 
 abbrev pub Rows : Type 0
 Rows = List (List ℕ)
@@ -88,21 +88,18 @@ orderly t rows =
 unfoldable pub sound-table : Table → Rows → Bool
 sound-table t rows = orderly t rows && sound (view t rows)
 
--- a call on a stored table: what it hands back
+-- a call on a stored table: what it hands back, and the rows beside that
 pub record Laid : Type 0 where
-  pub report : Report
-  pub table : Table
+  pub reply : Reply
   pub rows : Rows
+
+abbrev pub laid : Outcome → Laid
+laid o = record { reply = record { report = o .report; table = lay-table (o .after) }; rows = lay-rows (o .after) }
 
 -- a sound table: the call, laid out; any other: refusal 1, and every field as it was
 unfoldable pub call-by : Bool → Table → Rows → Request → Laid
-call-by true t rows q =
-    record {
-      report = call (view t rows) q .report;
-      table = lay-table (call (view t rows) q .after);
-      rows = lay-rows (call (view t rows) q .after);
-    }
-call-by false t rows q = record { report = report Unsound (view t rows) 0 0; table = t; rows = rows }
+call-by true t rows q = laid (call (view t rows) q)
+call-by false t rows q = record { reply = record { report = report Unsound (view t rows) 0 0; table = t }; rows = rows }
 
 unfoldable pub call-table : Table → Rows → Request → Laid
 call-table t rows q = call-by (sound-table t rows) t rows q

@@ -1,4 +1,5 @@
--- A part of the table read, and written with all others as they were. These are the only places where a record is written whole.
+-- A part of the table read, and written with all others as they were. These are the only places where a record is written whole; no
+-- rule of 01 stands here.
 use mathlib.Core.List.{List, []}
 use Prim.Native.Nat.{ℕ}
 use lib.ListN.{getD}

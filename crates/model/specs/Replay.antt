@@ -1,4 +1,5 @@
--- 01, Replay file: what the replay program writes for a file's bytes, as lines of numbers.
+-- 01, Replay file: what the replay program writes for a file's bytes, as lines of numbers. How a number is written in digits is the
+-- text's matter.
 use mathlib.Core.Bool.{Bool, true, false, _&&_}
 use mathlib.Core.List.{List, [], _∷_}
 use Prim.Native.Nat.{ℕ, zero, suc, _+_, _*_}

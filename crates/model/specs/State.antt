@@ -1,4 +1,5 @@
--- 01, The table: what it holds, as plain lists, and a fresh one.
+-- 01, The table: what it holds, as plain lists, and a fresh one. The records of threads, objects and timers are the structs of src/, so
+-- that code and model speak of the same fields; how lists are stored is Layout.antt's matter.
 use mathlib.Core.Bool.{Bool}
 use mathlib.Core.List.{List, []}
 use Prim.Native.Nat.{ℕ, _+_}

@@ -1,4 +1,5 @@
--- 01, One tick: its five steps, and when a tick is a wake-up.
+-- 01, One tick: its five steps, and when a tick is a wake-up. Each step is told in the words of Words.antt; timers act by the effects of
+-- the calls.
 use mathlib.Core.Bool.{Bool, cond, _&&_, _||_}
 use Prim.Native.Nat.{ℕ, _+_, _-_, _%_, _^_}
 use lib.Dec.{eqb, leb, ltb}

@@ -1,4 +1,5 @@
--- Many ticks, as 01 has them under One tick and at call 22: one after another; how many are wake-ups; the next wake-up.
+-- Many ticks, as 01 has them under One tick and at call 22: one after another; how many are wake-ups; the next wake-up. This is what any
+-- faster way to pass the time must equal.
 use mathlib.Core.Path.{_≡_}
 use mathlib.Core.Bool.{true, false, cond}
 use mathlib.Core.List.{map}

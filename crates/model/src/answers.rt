@@ -1,4 +1,5 @@
-// What a call hands back (01, Answers). `number` of specs/Answers.antt gives each case its number.
+// What a call hands back (01, Answers). `number` of specs/Answers.antt gives each case its number, `report` what stands beside it. The
+// ready rows come back beside the reply.
 use crate::tables::Table;
 
 pub enum Answer {

@@ -1,4 +1,5 @@
-// What the table, a request and a reply are made of. What they mean stands in specs/, a file per section of document 01.
+// What the table, a request and a reply are made of. What they mean stands in specs/, a file per section of document 01; that the code
+// does just that is proved in the crates above.
 pub mod answers;
 pub mod requests;
 pub mod tables;

@@ -1,4 +1,5 @@
-// One call as it is asked for (01, Calls). Any six numbers make a request; what is wrong with them is a refusal.
+// One call as it is asked for (01, Calls). Any six numbers make a request; what is wrong with them is a refusal, also a call or an id
+// past a byte.
 
 pub struct Request {
     pub call: u32,

@@ -1,4 +1,5 @@
--- What is said of plain lists, whatever they hold and however many places a table has for them. No word of the kernel stands here.
+-- What is said of plain lists, whatever they hold and however many places a table has for them. No word of the kernel stands here, so
+-- that a fact about lists is shown once and serves every kind of list.
 use mathlib.Core.Bool.{Bool, true, false, cond, _&&_, _||_}
 use mathlib.Core.List.{List, [], _∷_, _++_}
 use Prim.Native.Nat.{ℕ, zero, suc, _+_, _-_, min}
