@@ -6,6 +6,7 @@ use Prim.Native.Nat.{ℕ}
 use lib.Dec.{eqb}
 use lib.ListN.{length, take, getD}
 use Rattle.sequences.specs.Lists.{alter, snoc, only, every-below}
+use Rattle.model.specs.declared.tables.Thread.{Thread}
 use Rattle.model.specs.State.{State, nobody, fresh}
 use Rattle.model.specs.Parts.{with-clock, with-off, with-chosen, with-timers, with-ready, alter-thread, alter-semaphore, alter-mutex, alter-flags, alter-timer}
 use Rattle.model.specs.Parts.{with-base, with-current, with-quantum, with-left, with-limit, with-result, with-wait, with-delivered, with-count, with-owner, with-word, with-time}
@@ -43,6 +44,9 @@ break-each ds = every-below (length (all-clauses busy)) (λ n. broken-at n ds)
 abbrev pub moved : ℕ → ℕ → State
 moved i j = enter-tail j i (leave i busy)
 
+abbrev pub created-as : ℕ → Thread → Thread
+created-as x t = record { created = x; base = t .base; current = t .current; quantum = t .quantum; left = t .left; limit = t .limit; result = t .result; mask = t .mask; mode = t .mode; delivered = t .delivered }
+
 -- timer 1, which is stopped, with another action
 abbrev pub with-action : ℕ → ℕ → ℕ → State
 with-action kind object mask = alter-timer 1 (λ t. record { period = t .period; left = t .left; repeat = t .repeat; kind = kind; object = object; mask = mask; count = t .count }) busy
@@ -62,6 +66,7 @@ damages =
     -- numbers past their range, one after another
     ∷ fields-in-range broken-by with-clock 4294967296 busy
     ∷ fields-in-range broken-by with-off 2 busy
+    ∷ fields-in-range broken-by enter-tail 1 7 (alter-thread 7 (created-as 2) busy)
     ∷ fields-in-range broken-by alter-thread 7 (λ t. with-base 8 (with-current 8 t)) busy
     ∷ fields-in-range broken-by alter-thread 7 (with-quantum 65536 1) busy
     ∷ fields-in-range broken-by alter-thread 6 (with-limit 4294967296) busy
@@ -72,7 +77,9 @@ damages =
     ∷ fields-in-range broken-by with-semaphore 1 1 2 65536
     ∷ fields-in-range broken-by with-semaphore 1 1 0 0
     ∷ fields-in-range broken-by alter-mutex 0 (with-owner 3 256) busy
+    ∷ fields-in-range broken-by alter-mutex 3 (λ x. record { created = 2; owner = 0; depth = 0 }) busy
     ∷ fields-in-range broken-by alter-flags 0 (with-word 65536) busy
+    ∷ fields-in-range broken-by alter-flags 3 (λ x. record { created = 2; word = 0 }) busy
     ∷ fields-in-range broken-by with-period 4294967296 0
     ∷ fields-in-range broken-by with-period 30 2
     ∷ fields-in-range broken-by alter-timer 1 (with-time 0 4294967296) busy
@@ -83,7 +90,10 @@ damages =
     ∷ each-on-one-list broken-by with-ready (alter 2 (snoc 7) (busy .ready)) busy
     ∷ each-on-one-list broken-by leave 7 busy
     ∷ each-on-one-list broken-by enter-tail 1 15 busy
-    -- 15 is absent, and has something delivered
+    -- 15 is absent, and has a priority, a quantum, a result, something delivered
+    ∷ absent-threads-zero broken-by alter-thread 15 (λ t. with-base 1 (with-current 1 t)) busy
+    ∷ absent-threads-zero broken-by alter-thread 15 (with-quantum 1 1) busy
+    ∷ absent-threads-zero broken-by alter-thread 15 (with-result 1) busy
     ∷ absent-threads-zero broken-by alter-thread 15 (with-delivered 1) busy
     -- 0 is on the ready list of another priority
     ∷ ready-by-priority broken-by with-ready (alter 2 (snoc 0) (leave 0 busy .ready)) busy

@@ -3,7 +3,7 @@
 use mathlib.Core.List.{List, [], _∷_}
 use Rattle.model.specs.State.{fresh}
 use Rattle.examples.specs.Asking.{create-thread, start, stop, exit, yield, sleep, set-priority, set-quantum, create-semaphore, pend, post, create-mutex, claim, release, create-flags, wait, set, clear, advance}
-use Rattle.examples.specs.Probes.{Case, _is_, _gives_then_, end, answer, chosen, clock, wakeups, next, base, current, quantum, left, limit, result, mask, mode, delivered, count, owner, word, ready-at, list-length, list-at}
+use Rattle.examples.specs.Probes.{Case, _is_, _gives_then_, end, answer, chosen, clock, wakeups, next, base, current, quantum, left, limit, result, mask, mode, delivered, count, owner, depth, word, ready-at, list-length, list-at}
 
 unfoldable pub effects : List Case
 effects =
@@ -45,7 +45,7 @@ effects =
           set-priority 1 2 gives answer is 0 ∷ current 0 is 3 ∷ [] then
           set-priority 0 1 gives answer is 0 ∷ current 0 is 3 ∷ base 0 is 1 ∷ [] then
           set-priority 0 2 gives answer is 0 ∷ current 0 is 3 ∷ [] then
-          release 0 gives answer is 0 ∷ ready-at 2 0 is 2 ∷ ready-at 2 1 is 0 ∷ ready-at 2 2 is 1 ∷ chosen is 2 ∷ owner 0 is 1 ∷ [] then
+          release 0 gives answer is 0 ∷ ready-at 2 0 is 2 ∷ ready-at 2 1 is 0 ∷ ready-at 2 2 is 1 ∷ chosen is 2 ∷ owner 0 is 1 ∷ depth 0 is 1 ∷ result 1 is 1 ∷ [] then
           end;
     }
     -- it falls to its base even while it owns another mutex
@@ -246,6 +246,27 @@ effects =
           wait 0 0x0012 1 0 gives answer is 10 ∷ list-length 14 is 3 ∷ [] then
           set 0 0x0002 gives answer is 0 ∷ word 0 is 0x0012 ∷ ready-at 4 0 is 1 ∷ ready-at 4 1 is 2 ∷ delivered 1 is 0x0012 ∷ delivered 2 is 0x0012 ∷ delivered 0 is 0 ∷ list-at 14 0 is 0 ∷ list-length 14 is 1 ∷ chosen is 1 ∷ [] then
           set 0 0x0005 gives answer is 0 ∷ word 0 is 0x0017 ∷ delivered 0 is 0x0017 ∷ chosen is 0 ∷ list-length 14 is 0 ∷ [] then
+          end;
+    }
+    -- what was delivered is the whole word, and is kept until the next
+    ∷ record {
+      from = fresh;
+      steps =
+          create-flags 0 5 gives answer is 0 ∷ [] then
+          create-thread 0 2 0 gives answer is 0 ∷ [] then
+          start 0 gives answer is 0 ∷ [] then
+          wait 0 4 0 0 gives answer is 0 ∷ delivered 0 is 5 ∷ result 0 is 1 ∷ word 0 is 5 ∷ [] then
+          sleep 1 gives answer is 10 ∷ delivered 0 is 5 ∷ result 0 is 0 ∷ [] then
+          advance 1 gives answer is 0 ∷ delivered 0 is 5 ∷ result 0 is 1 ∷ [] then
+          end;
+    }
+    -- another priority moves nobody on the stopped list
+    ∷ record {
+      from = fresh;
+      steps =
+          create-thread 3 2 0 gives answer is 0 ∷ [] then
+          create-thread 4 2 0 gives answer is 0 ∷ [] then
+          set-priority 3 7 gives answer is 0 ∷ current 3 is 7 ∷ list-at 1 0 is 3 ∷ list-at 1 1 is 4 ∷ [] then
           end;
     }
     ∷ []

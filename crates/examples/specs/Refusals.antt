@@ -3,8 +3,8 @@
 use mathlib.Core.List.{List, [], _∷_}
 use Rattle.model.specs.State.{fresh}
 use Rattle.model.specs.Parts.{with-clock, with-chosen, alter-mutex, with-owner}
-use Rattle.examples.specs.Asking.{ask, create-thread, start, stop, exit, sleep, create-semaphore, pend, create-mutex, claim, release, create-flags, start-timer, stop-timer, scheduling, advance}
-use Rattle.examples.specs.Probes.{Case, _is_, _gives_then_, end, answer, chosen, clock, wakeups, next, current, quantum, result, count, owner, depth, list-at, after-calls}
+use Rattle.examples.specs.Asking.{ask, create-thread, start, stop, exit, yield, sleep, set-priority, set-quantum, create-semaphore, pend, post, create-mutex, claim, release, create-flags, wait, set, clear, start-timer, stop-timer, scheduling, advance}
+use Rattle.examples.specs.Probes.{Case, _is_, _gives_then_, end, answer, chosen, clock, wakeups, next, current, quantum, left, result, delivered, count, owner, depth, word, list-length, list-at, after-calls}
 
 unfoldable pub refusals : List Case
 refusals =
@@ -138,6 +138,94 @@ refusals =
           create-semaphore 0 0 65536 gives answer is 4 ∷ [] then
           create-semaphore 0 65535 65535 gives answer is 0 ∷ [] then
           create-semaphore 0 0 1 gives answer is 5 ∷ count 0 is 65535 ∷ [] then
+          end;
+    }
+    -- an unused field that isn't 0, each of them in turn
+    ∷ record {
+      from = fresh;
+      steps =
+          create-thread 0 3 0 gives answer is 0 ∷ [] then
+          create-flags 0 0 gives answer is 0 ∷ [] then
+          ask 2 0 1 0 0 0 gives answer is 4 ∷ [] then
+          ask 2 0 0 1 0 0 gives answer is 4 ∷ [] then
+          ask 2 0 0 0 1 0 gives answer is 4 ∷ [] then
+          ask 2 0 0 0 0 1 gives answer is 4 ∷ [] then
+          ask 1 1 3 0 1 0 gives answer is 4 ∷ [] then
+          ask 1 1 3 0 0 1 gives answer is 4 ∷ [] then
+          start 0 gives answer is 0 ∷ [] then
+          ask 6 1 1 0 0 0 gives answer is 4 ∷ [] then
+          ask 6 0 1 1 0 0 gives answer is 4 ∷ [] then
+          ask 6 0 1 0 1 0 gives answer is 4 ∷ [] then
+          ask 6 0 1 0 0 1 gives answer is 4 ∷ [] then
+          ask 4 0 1 0 0 0 gives answer is 4 ∷ [] then
+          ask 21 1 1 0 0 0 gives answer is 4 ∷ [] then
+          ask 16 0 1 0 0 1 gives answer is 4 ∷ [] then
+          end;
+    }
+    -- masks, words, modes, priorities, quanta, scheduling: one past the range
+    ∷ record {
+      from = fresh;
+      steps =
+          create-flags 0 65536 gives answer is 4 ∷ [] then
+          create-flags 0 65535 gives answer is 0 ∷ [] then
+          create-thread 0 0 0 gives answer is 0 ∷ [] then
+          start 0 gives answer is 0 ∷ [] then
+          wait 0 0 0 0 gives answer is 4 ∷ [] then
+          wait 0 65536 0 0 gives answer is 4 ∷ [] then
+          wait 0 1 4 0 gives answer is 4 ∷ [] then
+          wait 0 65535 3 4294967295 gives answer is 10 ∷ next is 4294967295 ∷ [] then
+          set 0 0 gives answer is 4 ∷ [] then
+          set 0 65536 gives answer is 4 ∷ [] then
+          clear 0 0 gives answer is 4 ∷ [] then
+          clear 0 65536 gives answer is 4 ∷ [] then
+          set-priority 0 8 gives answer is 4 ∷ [] then
+          set-priority 0 7 gives answer is 0 ∷ current 0 is 7 ∷ [] then
+          set-quantum 0 65536 gives answer is 4 ∷ [] then
+          set-quantum 0 65535 gives answer is 0 ∷ left 0 is 65535 ∷ [] then
+          scheduling 2 gives answer is 4 ∷ [] then
+          end;
+    }
+    -- objects: ids past the range, and what is there already
+    ∷ record {
+      from = fresh;
+      steps =
+          create-semaphore 8 0 1 gives answer is 3 ∷ [] then
+          create-mutex 4 gives answer is 3 ∷ [] then
+          create-flags 4 0 gives answer is 3 ∷ [] then
+          create-mutex 3 gives answer is 0 ∷ [] then
+          create-mutex 3 gives answer is 5 ∷ [] then
+          create-flags 3 1 gives answer is 0 ∷ [] then
+          create-flags 3 2 gives answer is 5 ∷ word 3 is 1 ∷ [] then
+          post 7 gives answer is 3 ∷ [] then
+          claim 0 0 gives answer is 3 ∷ [] then
+          claim 4 0 gives answer is 3 ∷ [] then
+          release 0 gives answer is 3 ∷ [] then
+          set 0 1 gives answer is 3 ∷ [] then
+          clear 4 1 gives answer is 3 ∷ [] then
+          end;
+    }
+    -- scheduling off: exit, yield and sleep are 7 always, a claim and a wait where they would wait; a mutex of another's isn't to be released
+    ∷ record {
+      from = fresh;
+      steps =
+          create-mutex 0 gives answer is 0 ∷ [] then
+          create-mutex 1 gives answer is 0 ∷ [] then
+          create-flags 0 5 gives answer is 0 ∷ [] then
+          create-thread 1 2 0 gives answer is 0 ∷ [] then
+          create-thread 2 3 0 gives answer is 0 ∷ [] then
+          start 1 gives answer is 0 ∷ [] then
+          claim 0 0 gives answer is 0 ∷ [] then
+          start 2 gives answer is 0 ∷ chosen is 2 ∷ [] then
+          release 0 gives answer is 8 ∷ [] then
+          scheduling 0 gives answer is 0 ∷ [] then
+          yield gives answer is 7 ∷ [] then
+          sleep 1 gives answer is 7 ∷ [] then
+          exit gives answer is 7 ∷ [] then
+          claim 0 0 gives answer is 7 ∷ list-length 10 is 0 ∷ [] then
+          claim 1 0 gives answer is 0 ∷ owner 1 is 2 ∷ [] then
+          wait 0 2 0 0 gives answer is 7 ∷ list-length 14 is 0 ∷ [] then
+          wait 0 4 0 0 gives answer is 0 ∷ delivered 2 is 5 ∷ [] then
+          stop 1 gives answer is 0 ∷ chosen is 2 ∷ [] then
           end;
     }
     ∷ []

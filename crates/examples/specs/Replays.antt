@@ -4,7 +4,7 @@ use mathlib.Core.Bool.{Bool, true, false, _&&_}
 use mathlib.Core.List.{List, [], _∷_, _++_}
 use Prim.Native.Nat.{ℕ}
 use lib.Dec.{eqb}
-use lib.ListN.{replicate, take}
+use lib.ListN.{replicate, take, drop}
 use Rattle.model.specs.Replay.{Line, numbers, bad-record, replay}
 
 pub record Played : Type 0 where
@@ -47,4 +47,7 @@ replays =
     ∷ record { bytes = take 40 whole-example ++ record-of 0xDD 0x16 0x00 0x05 ++ whole-example; lines = numbers 0 255 0 0 ∷ numbers 0 3 0 0 ∷ bad-record 40 ∷ [] }
     ∷ record { bytes = take 39 whole-example; lines = numbers 0 255 0 0 ∷ bad-record 20 ∷ [] }
     ∷ record { bytes = take 1 whole-example; lines = bad-record 0 ∷ [] }
+    -- the other byte of the mark; fields of several bytes, and the wake-ups of an advance
+    ∷ record { bytes = 0xAB ∷ drop 1 whole-example; lines = bad-record 0 ∷ [] }
+    ∷ record { bytes = 0xAC ∷ 0xDC ∷ 0x13 ∷ 0x00 ∷ 0x82 ∷ 0x00 ∷ 0x00 ∷ 0x00 ∷ 0x01 ∷ replicate 11 0 ++ (0xAC ∷ 0xDC ∷ 0x16 ∷ 0x00 ∷ 0x2C ∷ 0x01 ∷ replicate 14 0); lines = numbers 0 255 0 0 ∷ numbers 0 255 300 2 ∷ [] }
     ∷ []

@@ -3,7 +3,7 @@
 use mathlib.Core.List.{List, [], _∷_}
 use Rattle.model.specs.State.{fresh}
 use Rattle.model.specs.Parts.{alter-timer, with-time}
-use Rattle.examples.specs.Asking.{create-thread, start, yield, sleep, set-priority, create-semaphore, create-flags, start-timer, stop-timer, scheduling, advance}
+use Rattle.examples.specs.Asking.{create-thread, start, yield, sleep, set-priority, create-semaphore, pend, create-flags, start-timer, stop-timer, scheduling, advance}
 use Rattle.examples.specs.Probes.{Case, _is_, _gives_then_, end, answer, chosen, clock, wakeups, next, left, count, word, timer-left, expiries, ready-length, ready-at, after-calls}
 
 unfoldable pub ticking : List Case
@@ -34,7 +34,7 @@ ticking =
           advance 0 gives answer is 0 ∷ wakeups is 0 ∷ timer-left 0 is 5 ∷ [] then
           advance 10 gives answer is 0 ∷ wakeups is 2 ∷ count 0 is 1 ∷ expiries 0 is 2 ∷ expiries 1 is 1 ∷ timer-left 1 is 0 ∷ [] then
           start-timer 0 9 0 0 0 0 gives answer is 0 ∷ expiries 0 is 2 ∷ timer-left 0 is 9 ∷ [] then
-          stop-timer 0 gives answer is 0 ∷ timer-left 0 is 0 ∷ next is 0 ∷ [] then
+          stop-timer 0 gives answer is 0 ∷ timer-left 0 is 0 ∷ expiries 0 is 2 ∷ next is 0 ∷ [] then
           stop-timer 0 gives answer is 0 ∷ [] then
           end;
     }
@@ -82,6 +82,37 @@ ticking =
       steps =
           advance 1 gives answer is 0 ∷ expiries 0 is 0 ∷ timer-left 0 is 3 ∷ [] then
           advance 3 gives answer is 0 ∷ expiries 0 is 1 ∷ [] then
+          end;
+    }
+    -- who is preempted by a tick keeps its place, too
+    ∷ record {
+      from = fresh;
+      steps =
+          create-thread 0 2 0 gives answer is 0 ∷ [] then
+          create-thread 1 2 0 gives answer is 0 ∷ [] then
+          create-thread 2 6 0 gives answer is 0 ∷ [] then
+          start 2 gives answer is 0 ∷ [] then
+          sleep 1 gives answer is 10 ∷ [] then
+          start 0 gives answer is 0 ∷ [] then
+          start 1 gives answer is 0 ∷ chosen is 0 ∷ [] then
+          advance 1 gives answer is 0 ∷ chosen is 2 ∷ ready-at 2 0 is 0 ∷ ready-at 2 1 is 1 ∷ [] then
+          end;
+    }
+    -- timers that end in one tick act by id
+    ∷ record {
+      from = fresh;
+      steps =
+          create-semaphore 0 0 1 gives answer is 0 ∷ [] then
+          create-semaphore 1 0 1 gives answer is 0 ∷ [] then
+          create-thread 5 2 0 gives answer is 0 ∷ [] then
+          create-thread 4 2 0 gives answer is 0 ∷ [] then
+          start 5 gives answer is 0 ∷ [] then
+          pend 0 0 gives answer is 10 ∷ [] then
+          start 4 gives answer is 0 ∷ [] then
+          pend 1 0 gives answer is 10 ∷ [] then
+          start-timer 1 3 0 1 1 0 gives answer is 0 ∷ [] then
+          start-timer 0 3 0 1 0 0 gives answer is 0 ∷ [] then
+          advance 3 gives answer is 0 ∷ ready-at 2 0 is 5 ∷ ready-at 2 1 is 4 ∷ chosen is 5 ∷ wakeups is 1 ∷ [] then
           end;
     }
     ∷ []
