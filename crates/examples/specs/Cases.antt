@@ -1,4 +1,4 @@
--- 01, Examples at the edges, those marked P: P1 to P12, one table. Every value that the document names of them is an expected one, and
+-- 01, Examples at the edges: P1 to P12, one table. Every value that the document names of them is an expected one, and
 -- so is the answer of each call on the way. `cases-hold` in proofs/ is the one statement on all of them.
 use mathlib.Core.List.{List, [], _∷_}
 use Rattle.model.specs.State.{fresh}

@@ -7,7 +7,7 @@ use Rattle.examples.specs.Probes.{Case, _is_, _gives_then_, end, answer,
 
 unfoldable pub effects : List Case
 effects =
-    -- a wait list: behind all of equal or higher current priority, whatever the order of arrival
+    -- a wait list goes by current priority, and among equals by arrival
     record {
       from = fresh;
       steps =
@@ -29,7 +29,7 @@ effects =
           post 0 gives answer is 0 ∷ chosen is 2 ∷ result 2 is 1 ∷ count 0 is 0 ∷ list-length 2 is 3 ∷ [] then
           end;
     }
-    -- release: the releaser moves to the tail of its own list first, then the waiter to its
+    -- release: first the releaser goes down to a tail, behind it the new owner
     ∷ record {
       from = fresh;
       steps =
@@ -48,7 +48,7 @@ effects =
           release 0 gives answer is 0 ∷ ready-at 2 0 is 2 ∷ ready-at 2 1 is 0 ∷ ready-at 2 2 is 1 ∷ chosen is 2 ∷ owner 0 is 1 ∷ depth 0 is 1 ∷ result 1 is 1 ∷ [] then
           end;
     }
-    -- it falls to its base even while it owns another mutex
+    -- one release takes all of a raise away, also from who has a second mutex
     ∷ record {
       from = fresh;
       steps =
@@ -65,7 +65,7 @@ effects =
           advance 5 gives answer is 0 ∷ result 1 is 2 ∷ chosen is 1 ∷ list-length 10 is 0 ∷ limit 1 is 0 ∷ [] then
           end;
     }
-    -- a raised owner that waits re-enters its wait list
+    -- an owner who waits itself gets ahead in its wait list by a raise
     ∷ record {
       from = fresh;
       steps =
@@ -135,7 +135,7 @@ effects =
           advance 4 gives answer is 0 ∷ result 0 is 2 ∷ mode 0 is 0 ∷ mask 0 is 0 ∷ delivered 0 is 0 ∷ wakeups is 1 ∷ [] then
           end;
     }
-    -- a raised owner that is ready goes to the tail of its new list; a waiter's new priority touches no owner
+    -- a ready owner goes behind the others of the priority it is raised to; to raise a waiter by call 7 raises no owner
     ∷ record {
       from = fresh;
       steps =

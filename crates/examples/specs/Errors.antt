@@ -1,5 +1,5 @@
--- 01, Errors a good programmer would make here: a case for each of the five, in its order. A kernel with that error fails the
--- case.
+-- The five errors that 01 warns of at its end: a case for each, in that order. A kernel with the error fails
+-- the case.
 use mathlib.Core.List.{List, [], _∷_}
 use Rattle.model.specs.State.{fresh}
 use Rattle.examples.specs.Asking.{create-thread, start, sleep, create-flags, wait, start-timer, advance}
@@ -7,7 +7,7 @@ use Rattle.examples.specs.Probes.{Case, _is_, _gives_then_, end, answer,
 
 unfoldable pub errors : List Case
 errors =
-    -- the next wake-up is worked out anew when a shorter timer starts
+    -- a shorter timer brings the next wake-up nearer
     record {
       from = fresh;
       steps =
@@ -49,7 +49,7 @@ errors =
           sleep 1 gives answer is 10 ∷ chosen is 3 ∷ [] then
           end;
     }
-    -- a thread alone in its list spends nothing of its quantum
+    -- who shares its priority with nobody spends nothing of its quantum
     ∷ record {
       from = fresh;
       steps =

@@ -140,7 +140,7 @@ refusals =
           create-semaphore 0 0 1 gives answer is 5 ∷ count 0 is 65535 ∷ [] then
           end;
     }
-    -- an unused field that isn't 0, each of them in turn
+    -- fields that a call doesn't use, filled in one after another
     ∷ record {
       from = fresh;
       steps =

@@ -20,7 +20,7 @@ use Rattle.model.specs.Calls.{kind-of, object-of, pend-waits, claim-wait
 abbrev pub new-thread : ℕ → ℕ → Thread
 new-thread priority quantum = record { created = 1; base = priority; current = priority; quantum = quantum; left = quantum; limit = 0; result = 0; mask = 0; mode = 0; delivered = 0 }
 
--- 1: to the tail of the stopped list
+-- 1: last among the stopped
 unfoldable pub create-thread-effect : Request → State → State
 create-thread-effect q s = enter-tail stopped-list (q .id) (alter-thread (q .id) (λ t. new-thread (q .a) (q .b)) s)
 
@@ -36,7 +36,7 @@ stop-effect q s = enter-tail stopped-list (q .id) (leave (q .id) s)
 unfoldable pub exit-effect : Request → State → State
 exit-effect q s = alter-thread (s .chosen) (λ t. absent-thread) (leave (s .chosen) s)
 
--- 5: the running thread goes to the tail of its ready list
+-- 5: the running thread behind all others of its priority
 unfoldable pub yield-effect : Request → State → State
 yield-effect q s = become-ready (s .chosen) s
 
@@ -44,7 +44,7 @@ yield-effect q s = become-ready (s .chosen) s
 unfoldable pub sleep-effect : Request → State → State
 sleep-effect q s = start-to-sleep (s .chosen) (q .a) s
 
--- what the current priority becomes by a new base: for an owner of a mutex it doesn't fall
+-- what the current priority becomes by a new base: who owns a mutex doesn't fall by it
 abbrev pub new-current : ℕ → ℕ → State → ℕ
 new-current i base s = cond (owns-any i s) (max base (thread i s .current)) base
 
@@ -111,7 +111,7 @@ hand-over o (i ∷ l) s = wake i 1 (alter-mutex o (with-owner i 1) s)
 unfoldable pub fall : ℕ → State → State
 fall i s = take-priority i (thread i s .base) s
 
--- 14: depth less one; at 0 the releaser falls to its base, then the mutex goes to the first waiter
+-- 14: one level less; with the last one the releaser falls to its base, and then the mutex changes hands
 unfoldable pub release-effect : Request → State → State
 release-effect q s =
     cond (eqb (mutex (q .id) s .depth) 1)
@@ -140,7 +140,7 @@ wake-each word (i ∷ l) s = wake-each word l (wake i 1 (alter-thread i (with-de
 abbrev pub met : ℕ → List ℕ → State → List ℕ
 met word l s = only (λ i. holds (thread i s .mode) (thread i s .mask) word) l
 
--- the word is changed, then each waiter whose condition holds is woken in list order; waking doesn't change the word
+-- first the word changes, then those it concerns are woken as they stand in the list; that leaves the word alone
 unfoldable pub change-word : ℕ → ℕ → State → State
 change-word o word s = wake-each word (met word (list (flags-list o) s) s) (alter-flags o (with-word word) s)
 
@@ -166,7 +166,7 @@ start-timer-effect q s =
 unfoldable pub stop-timer-effect : Request → State → State
 stop-timer-effect q s = alter-timer (q .id) (λ t. with-time 0 (t .count) t) s
 
--- the action of a timer: kinds 0 nothing, 1 post, 2 set flags
+-- the action of a timer: kind 1 posts, kind 2 sets flags, kind 0 does neither
 unfoldable pub act : ℕ → ℕ → ℕ → State → State
 act zero object mask s = s
 act (suc zero) object mask s = post-semaphore object s

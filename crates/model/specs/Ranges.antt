@@ -50,7 +50,7 @@ has-mutex o s = ltb o mutex-count && eqb (mutex o s .created) 1
 abbrev pub has-flags : ℕ → State → Bool
 has-flags o s = ltb o flags-count && eqb (flag-object o s .created) 1
 
--- ---- 01, Calls, the action of a timer (call 19): kinds 0 nothing, 1 post, 2 set flags
+-- ---- 01, Calls, the action of a timer (call 19)
 
 -- a post names a semaphore that is there, a set a flag object that is there
 abbrev pub names-object : ℕ → ℕ → State → Bool

@@ -18,7 +18,7 @@ record-length = 20
 abbrev pub number-at : ℕ → List ℕ → ℕ
 number-at k bytes = getD bytes k 0 + 256 * (getD bytes (k + 1) 0 + 256 * (getD bytes (k + 2) 0 + 256 * getD bytes (k + 3) 0))
 
--- the mark AC DC, call, id, then a, b, c, d
+-- behind the mark a byte each for call and id, then the four numbers
 abbrev pub request-of : List ℕ → Request
 request-of bytes =
     record {
@@ -42,8 +42,8 @@ pub data Line : Type 0 where
 abbrev pub line-of : Report → Line
 line-of r = numbers (number (r .answer)) (r .chosen) (r .clock) (r .wakeups)
 
--- the rest of a file, at most n records of it: its first byte's offset in the file, its bytes, and the table so far. A wrong mark
--- or a short last record ends it.
+-- the rest of a file, at most n records of it: its first byte's offset in the file, its bytes, and the table so far. Where no
+-- record stands, that offset is the last line.
 unfoldable pub lines-from : ℕ → ℕ → List ℕ → State → List Line
 lines-from zero offset bytes s = []
 lines-from (suc n) offset [] s = []

@@ -119,7 +119,7 @@ ready-by-priority s = each-priority (λ p. every (λ i. eqb (thread i s .current
 unfoldable pub wait-lists-fall : State → Bool
 wait-lists-fall s = every (λ l. falls (map (λ i. thread i s .current) l)) (drop first-wait-list (s .waits))
 
--- at least the base, and the base itself for a thread that owns no mutex
+-- never below the base, and above it only for owners
 unfoldable pub currents-fit : State → Bool
 currents-fit s = each-thread (λ i. leb (thread i s .base) (thread i s .current) && (owns-any i s || eqb (thread i s .current) (thread i s .base)))
 

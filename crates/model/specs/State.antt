@@ -96,7 +96,7 @@ absent-flags = record { created = 0; word = 0 }
 abbrev pub unused-timer : Timer
 unused-timer = record { period = 0; left = 0; repeat = 0; kind = 0; object = 0; mask = 0; count = 0 }
 
--- 01, The table: everything absent, zero and empty, scheduling on, none chosen
+-- 01, The table, its last sentence before soundness: nothing is created, no number but 0, no list but the empty one; scheduling goes on
 unfoldable pub fresh : State
 fresh =
     record {

@@ -23,7 +23,7 @@ clock-step s = with-clock (wrap (s .clock + 1)) s
 
 -- ---- 2
 
--- scheduling is on, the running thread has a quantum, and its ready list has two or more
+-- scheduling is on, the running thread has a quantum, and it shares its ready list
 unfoldable pub quantum-counts : State → Bool
 quantum-counts s =
     scheduling-on s && ltb 0 (thread (s .chosen) s .quantum) && leb 2 (length (ready-list (thread (s .chosen) s .current) s))
@@ -32,7 +32,7 @@ quantum-counts s =
 unfoldable pub quantum-ends : State → Bool
 quantum-ends s = quantum-counts s && eqb (thread (s .chosen) s .left) 1
 
--- at 0 the running thread goes to the tail of its list with its quantum renewed
+-- with nothing left the running thread lets the others of its list go first, its quantum renewed
 unfoldable pub quantum-step : State → State
 quantum-step s =
     cond (quantum-ends s)
@@ -85,6 +85,6 @@ timer-ends s = some-below timer-count (λ o. eqb (timer o s .left) 1)
 unfoldable pub limit-ends : State → Bool
 limit-ends s = some-below thread-count (λ i. eqb (thread i s .limit) 1)
 
--- the coming tick is a wake-up: in it step 2, a timer or a limit reaches 0
+-- the coming tick is a wake-up: a quantum, a timer or a limit runs out in it
 unfoldable pub wakes : State → Bool
 wakes s = quantum-ends s || timer-ends s || limit-ends (before-limits s)

@@ -66,7 +66,7 @@ enter-by-priority j i s = with-waits (alter j (insert-at (rank j i s) i) (s .wai
 unfoldable pub become-ready : ℕ → State → State
 become-ready i s = enter-ready i (leave i s)
 
--- 01, Calls, on who starts to wait or sleep: result 0 and the limit or ticks named; a mask and a mode for a flag object, else 0
+-- 01, Calls, on the start of a wait or a sleep: no result yet; the limit that the call gives, or its ticks; for flags a mask and a mode
 unfoldable pub suspend : ℕ → ℕ → ℕ → ℕ → State → State
 suspend i limit mask mode s = leave i (alter-thread i (with-wait limit 0 mask mode) s)
 
@@ -82,8 +82,8 @@ wake i result s = become-ready i (alter-thread i (with-wait 0 result 0 0) s)
 
 -- ---- priorities
 
--- 01, Calls, on a changed priority: a ready thread goes to the tail of the new list, a waiting one enters its wait list afresh,
--- any other stays where it is
+-- 01, Calls, on a changed priority: who is ready goes behind all others of the new one, who waits is ranked anew, any other stays where
+-- it is
 unfoldable pub re-enter : ℕ → State → State
 re-enter i s = cond (is-ready i s) (become-ready i s) (cond (is-waiting i s) (enter-by-priority (list-of i s) i (leave i s)) s)
 
@@ -93,7 +93,7 @@ take-priority i p s = cond (eqb (thread i s .current) p) s (re-enter i (alter-th
 
 -- ---- conditions on a flag word
 
--- 01, Calls, the modes: 0 any set, 1 all set, 2 any clear, 3 all clear
+-- 01, Calls, the modes from 0 on: of the mask's bits one is set, all are set, one is clear, all are clear
 abbrev pub holds : ℕ → ℕ → ℕ → Bool
 holds zero mask word = not (eqb (bitAnd word mask) 0)
 holds (suc zero) mask word = eqb (bitAnd word mask) mask
@@ -110,8 +110,8 @@ settle s = s
 abbrev pub choice : State → ℕ
 choice s = head-or (last-nonempty (s .ready)) nobody
 
--- 01, Calls, on choosing: only with scheduling on. A choice that differs from the thread chosen until then has its quantum
--- renewed; where the choice is nobody there is no such thread, and nothing is renewed.
+-- 01, Calls, on choosing: only with scheduling on. Who wasn't chosen before has its quantum renewed; where the
+-- choice is nobody there is no such thread, and nothing is renewed.
 unfoldable pub choose : State → State
 choose s =
     cond (scheduling-on s && not (eqb (choice s) (s .chosen)))
