@@ -40,7 +40,7 @@ exit-effect q s = alter-thread (s .chosen) (λ t. absent-thread) (leave (s .chos
 unfoldable pub yield-effect : Request → State → State
 yield-effect q s = become-ready (s .chosen) s
 
--- 6
+-- 6: the running thread sleeps for so many ticks
 unfoldable pub sleep-effect : Request → State → State
 sleep-effect q s = start-to-sleep (s .chosen) (q .a) s
 
@@ -48,17 +48,17 @@ sleep-effect q s = start-to-sleep (s .chosen) (q .a) s
 abbrev pub new-current : ℕ → ℕ → State → ℕ
 new-current i base s = cond (owns-any i s) (max base (thread i s .current)) base
 
--- 7
+-- 7: a new base, and what follows from it for the current priority
 unfoldable pub set-priority-effect : Request → State → State
 set-priority-effect q s = take-priority (q .id) (new-current (q .id) (q .a) s) (alter-thread (q .id) (with-base (q .a)) s)
 
--- 8
+-- 8: a new quantum, all of it left
 unfoldable pub set-quantum-effect : Request → State → State
 set-quantum-effect q s = alter-thread (q .id) (with-quantum (q .a) (q .a)) s
 
 -- ---- semaphores: 9 to 11
 
--- 9
+-- 9: there from now on, with this count and maximum
 unfoldable pub create-semaphore-effect : Request → State → State
 create-semaphore-effect q s = alter-semaphore (q .id) (λ x. record { created = 1; count = q .a; maximum = q .b }) s
 
@@ -87,7 +87,7 @@ post-effect q s = post-semaphore (q .id) s
 
 -- ---- mutexes: 12 to 14
 
--- 12
+-- 12: there from now on, and nobody's
 unfoldable pub create-mutex-effect : Request → State → State
 create-mutex-effect q s = alter-mutex (q .id) (λ x. record { created = 1; owner = 0; depth = 0 }) s
 
@@ -107,7 +107,7 @@ unfoldable pub hand-over : ℕ → List ℕ → State → State
 hand-over o [] s = alter-mutex o (with-owner 0 0) s
 hand-over o (i ∷ l) s = wake i 1 (alter-mutex o (with-owner i 1) s)
 
--- the running thread's current priority falls to its base
+-- the current priority of thread i falls to its base
 unfoldable pub fall : ℕ → State → State
 fall i s = take-priority i (thread i s .base) s
 
@@ -120,7 +120,7 @@ release-effect q s =
 
 -- ---- flag objects: 15 to 18
 
--- 15
+-- 15: there from now on, with this word
 unfoldable pub create-flags-effect : Request → State → State
 create-flags-effect q s = alter-flags (q .id) (λ x. record { created = 1; word = q .a }) s
 
@@ -162,7 +162,7 @@ unfoldable pub start-timer-effect : Request → State → State
 start-timer-effect q s =
     alter-timer (q .id) (λ t. record { period = q .a; left = q .a; repeat = q .b; kind = kind-of q; object = object-of q; mask = q .d; count = t .count }) s
 
--- 20: no more than its left
+-- 20: nothing is left to run; all else stays as it was
 unfoldable pub stop-timer-effect : Request → State → State
 stop-timer-effect q s = alter-timer (q .id) (λ t. with-time 0 (t .count) t) s
 
@@ -174,6 +174,6 @@ act (suc (suc kind)) object mask s = set-flags object mask s
 
 -- ---- scheduling: 21
 
--- 0 off, 1 on
+-- 21: asked for 0 it is off, asked for 1 it isn't
 unfoldable pub scheduling-effect : Request → State → State
 scheduling-effect q s = with-off (1 - q .a) s

@@ -68,7 +68,7 @@ perform true (some c) q s = accept c q s
 unfoldable pub next-state : Answer → Request → State → State
 next-state a q s = perform (accepted a) (numbered (q .call)) q s
 
--- how many ticks pass in a call: those of an advance that is done, else none
+-- how many ticks pass in a call: those of an advance (22) that is done, else none
 abbrev pub span : Answer → Request → ℕ
 span a q = cond (accepted a && eqb (q .call) 22) (q .a) 0
 

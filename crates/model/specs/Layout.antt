@@ -11,8 +11,8 @@ use Rattle.model.specs.declared.tables.Table.{Table}
 use Rattle.model.specs.declared.requests.Request.{Request}
 use Rattle.model.specs.declared.answers.Answer.the-variants.{Unsound}
 use Rattle.model.specs.declared.answers.Reply.{Reply}
-use Rattle.model.specs.State.{State, places, thread-count, semaphore-count, mutex-count, flags-count, timer-count, priority-count, list-count, fresh}
-use Rattle.model.specs.Sound.{each-priority, sound}
+use Rattle.model.specs.State.{State, places, priority-count, fresh}
+use Rattle.model.specs.Sound.{each-priority, shaped, sound}
 use Rattle.model.specs.Answers.{report}
 use Rattle.model.specs.Kernel.{Outcome, call}
 
@@ -68,16 +68,12 @@ lay-rows s = map (padded places) (s .ready)
 abbrev pub row-orderly : ℕ → List ℕ → Bool
 row-orderly n ids = eqb (length ids) places && leb n places && all-zero (drop n ids)
 
+-- the arrays have their lengths, and so have the lists in them
 unfoldable pub orderly : Table → Rows → Bool
 orderly t rows =
     all-true
-    (eqb (length (t .threads)) thread-count
-    ∷ eqb (length (t .semaphores)) semaphore-count
-    ∷ eqb (length (t .mutexes)) mutex-count
-    ∷ eqb (length (t .flags)) flags-count
-    ∷ eqb (length (t .timers)) timer-count
+    (shaped (view t rows)
     ∷ eqb (length (t .lengths)) priority-count
-    ∷ eqb (length (t .waits)) list-count
     ∷ eqb (length rows) priority-count
     ∷ each-priority (λ p. row-orderly (getD (t .lengths) p 0) (getD rows p []))
     ∷ every (λ (l : IdList). row-orderly (l .length) (l .ids)) (t .waits)

@@ -210,6 +210,7 @@ choice-fits s = cond (scheduling-on s) (eqb (s .chosen) (choice s)) (eqb (s .cho
 
 -- ---- all of it
 
+-- in the order of the paragraph, but for the choice
 unfoldable pub clauses : State → List Bool
 clauses s =
     shaped s
@@ -240,6 +241,7 @@ clauses s =
     ∷ absent-flags-zero s
     ∷ []
 
+-- what an effect must keep; the choice comes after it
 unfoldable pub sound-but-choice : State → Bool
 sound-but-choice s = all-true (clauses s)
 

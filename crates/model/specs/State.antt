@@ -96,7 +96,7 @@ absent-flags = record { created = 0; word = 0 }
 abbrev pub unused-timer : Timer
 unused-timer = record { period = 0; left = 0; repeat = 0; kind = 0; object = 0; mask = 0; count = 0 }
 
--- 01, The table, its last sentence before soundness: nothing is created, no number but 0, no list but the empty one; scheduling goes on
+-- 01, The table, on a fresh one: nothing is created, every number is 0, every list empty; scheduling is on, and nobody is chosen
 unfoldable pub fresh : State
 fresh =
     record {
