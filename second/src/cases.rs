@@ -1,0 +1,140 @@
+//! Files of cases: images, each with a request, and what each case must give. A case is the image's length, the image,
+//! then call, id, a, b, c, d; its answer is 0 for sound or 1, the report's five numbers, and the image after. Every
+//! number but the image's own bytes takes four bytes, low byte first.
+
+mod maker;
+
+use crate::image;
+use crate::image::layout::word;
+use crate::sound;
+use crate::table::{Report, Request};
+pub use maker::Maker;
+use std::fmt;
+use std::io::{self, BufRead, Read, Write};
+
+/// How many cases there were.
+#[derive(Clone, Copy, PartialEq, Eq, Debug, Default)]
+pub struct Summary {
+    pub cases: u64,
+    pub sound: u64,
+    pub unsound: u64,
+}
+
+impl Summary {
+    fn count(&mut self, sound: bool) {
+        self.cases += 1;
+        if sound {
+            self.sound += 1;
+        } else {
+            self.unsound += 1;
+        }
+    }
+}
+
+impl fmt::Display for Summary {
+    fn fmt(&self, formatter: &mut fmt::Formatter<'_>) -> fmt::Result {
+        write!(
+            formatter,
+            "{} cases: {} sound, {} unsound",
+            self.cases, self.sound, self.unsound
+        )
+    }
+}
+
+/// A file of cases, the same for the same seed.
+pub fn cases(seed: u64, count: u32, output: &mut dyn Write) -> io::Result<Summary> {
+    let mut maker = Maker::new(seed);
+    let mut summary = Summary::default();
+    for _ in 0..count {
+        let (image, request) = maker.case();
+        summary.count(sound::is_sound(&image));
+        write_case(output, &image, &request)?;
+    }
+    Ok(summary)
+}
+
+/// The answers to a file of cases, which is read as it goes. A file that isn't one is an error that says where.
+pub fn answers(input: &mut dyn BufRead, output: &mut dyn Write) -> io::Result<Summary> {
+    let mut file = File {
+        input,
+        case: 0,
+        offset: 0,
+    };
+    let mut summary = Summary::default();
+    while let Some(length) = file.next_case()? {
+        let mut image = file.part("image", length)?;
+        let request = file.request()?;
+        let sound = sound::is_sound(&image);
+        let report = image::call(&mut image, &request);
+        write_answer(output, sound, &report, &image)?;
+        summary.count(sound);
+    }
+    Ok(summary)
+}
+
+pub fn write_case(output: &mut dyn Write, image: &[u8], request: &Request) -> io::Result<()> {
+    write_number(output, image.len() as u32)?;
+    output.write_all(image)?;
+    for number in [request.call, request.id, request.a, request.b, request.c, request.d] {
+        write_number(output, number)?;
+    }
+    Ok(())
+}
+
+fn write_answer(output: &mut dyn Write, sound: bool, report: &Report, after: &[u8]) -> io::Result<()> {
+    write_number(output, if sound { 0 } else { 1 })?;
+    for number in [
+        report.answer,
+        report.chosen,
+        report.clock,
+        report.wake_ups,
+        report.next_wake_up,
+    ] {
+        write_number(output, number)?;
+    }
+    output.write_all(after)
+}
+
+fn write_number(output: &mut dyn Write, number: u32) -> io::Result<()> {
+    output.write_all(&number.to_le_bytes())
+}
+
+/// A file of cases being read: the number of the case, from 1, and the bytes read so far.
+struct File<'a> {
+    input: &'a mut dyn BufRead,
+    case: u64,
+    offset: u64,
+}
+
+impl File<'_> {
+    /// The length of the next case's image; None at the end of the file.
+    fn next_case(&mut self) -> io::Result<Option<u32>> {
+        if self.input.fill_buf()?.is_empty() {
+            return Ok(None);
+        }
+        self.case += 1;
+        self.part("length", 4).map(|bytes| Some(word(&bytes, 0)))
+    }
+
+    fn request(&mut self) -> io::Result<Request> {
+        let bytes = self.part("request", 24)?;
+        let [call, id, a, b, c, d] = [0, 4, 8, 12, 16, 20].map(|at| word(&bytes, at));
+        Ok(Request { call, id, a, b, c, d })
+    }
+
+    /// So many bytes of the case, or an error that names the part in which the file ends. No more memory is taken
+    /// than the file has bytes, whatever length it claims.
+    fn part(&mut self, name: &str, length: u32) -> io::Result<Vec<u8>> {
+        let mut bytes = Vec::new();
+        self.input.take(u64::from(length)).read_to_end(&mut bytes)?;
+        self.offset += bytes.len() as u64;
+        if bytes.len() == length as usize {
+            return Ok(bytes);
+        }
+        let message = format!(
+            "not a file of cases: it ends at byte {} within the {} of case {}",
+            self.offset, name, self.case
+        );
+        Err(io::Error::new(io::ErrorKind::InvalidData, message))
+    }
+}
