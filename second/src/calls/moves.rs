@@ -22,7 +22,7 @@ pub fn to_stopped_tail(table: &mut Table, thread: usize) {
     table.stopped.push(thread);
 }
 
-/// The thread comes to sit behind all waiters of equal or higher current priority.
+/// The thread passes only those whose current priority is lower.
 pub fn enter_wait_list(table: &mut Table, thread: usize, name: ListName) {
     let own = table.threads[thread].current_priority;
     let last_before = table

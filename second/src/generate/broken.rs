@@ -1,5 +1,5 @@
-//! Replay files that break off: a wrong mark or a short last record (01, Replay file), at any place and with more
-//! behind it, for nothing behind it may be read.
+//! Replay files that break off: a record whose mark isn't right, or too few bytes at the end (01, Replay file). It may
+//! stand anywhere and have more behind it, which nobody may read.
 
 use super::{Generator, Profile};
 use crate::random::Random;

@@ -69,7 +69,7 @@ fn a_limit_of_0_is_no_limit() {
     );
 }
 
-/// Behind all of equal or higher current priority, before the lower ones.
+/// Before the lower ones only; who came first stays ahead of its equals.
 #[test]
 fn a_wait_list_falls_in_priority_and_keeps_arrivals_in_order() {
     let mut kernel = Kernel::fresh();
@@ -174,7 +174,7 @@ fn a_claimer_of_no_higher_priority_raises_nobody() {
 
 /// A raised owner that is ready goes behind those who are already there.
 #[test]
-fn a_raised_ready_owner_goes_to_the_tail_of_its_new_list() {
+fn a_raised_ready_owner_comes_last_in_the_higher_list() {
     let mut kernel = Kernel::fresh();
     kernel.done(CREATE_MUTEX, 0, &[]);
     kernel.thread(1, 2, 0);
@@ -516,7 +516,7 @@ fn a_set_of_what_is_set_and_a_clear_of_what_is_clear_change_nothing() {
 }
 
 #[test]
-fn start_timer_writes_everything_anew_but_the_count() {
+fn a_timer_started_again_keeps_nothing_but_its_count() {
     let mut kernel = Kernel::fresh();
     kernel.done(CREATE_FLAGS, 2, &[0]);
     kernel.done(CREATE_SEMAPHORE, 3, &[0, 9]);

@@ -447,7 +447,7 @@ fn a_post_at_the_maximum_is_9() {
 }
 
 #[test]
-fn a_claim_at_depth_255_is_9_for_the_owner_alone() {
+fn the_greatest_depth_is_full_for_the_owner_alone() {
     let mut kernel = furnished();
     for _ in 0..255 {
         kernel.done(CLAIM, 0, &[]);

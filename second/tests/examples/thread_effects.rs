@@ -199,7 +199,7 @@ fn sleep_goes_to_the_sleep_tail_in_order_of_arrival() {
 }
 
 #[test]
-fn set_priority_moves_a_ready_thread_to_the_tail_of_its_new_list() {
+fn set_priority_puts_a_ready_thread_last_in_another_list() {
     let mut kernel = Kernel::fresh();
     for (id, priority) in [(0, 4), (1, 4), (2, 5), (3, 5)] {
         kernel.thread(id, priority, 0);
@@ -377,7 +377,7 @@ fn with_scheduling_off_the_chosen_thread_stays() {
 
 /// The same thread chosen again after scheduling was off keeps what is left; another one is renewed.
 #[test]
-fn a_quantum_is_renewed_only_by_a_choice_that_differs() {
+fn who_is_chosen_again_keeps_what_is_left_of_its_quantum() {
     let mut kernel = Kernel::fresh();
     kernel.thread(0, 4, 10);
     kernel.thread(1, 4, 10);

@@ -552,7 +552,7 @@ fn a_mutex_has_fifteen_waiters_at_most() {
 }
 
 #[test]
-fn an_owner_may_wait_sleep_or_be_stopped_and_owners_may_wait_in_a_ring() {
+fn owners_are_sound_in_every_place_and_in_a_ring() {
     for owner in [0, 4, 6, 8, 11, 12] {
         check(vec![(mutex(2, 1), vec![owner, 1])], &[]);
     }
