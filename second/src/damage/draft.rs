@@ -3,7 +3,7 @@
 
 use crate::image::layout::{self, half, word, PLACES};
 use crate::random::Random;
-use crate::table::{ListName, MUTEXES, PRIORITIES, THREADS};
+use crate::table::{ListName, FLAG_OBJECTS, MUTEXES, PRIORITIES, SEMAPHORES, THREADS, TIMERS};
 use std::mem::discriminant;
 
 /// A list of each family that has several, to name the family by.
@@ -98,6 +98,33 @@ impl<'a> Draft<'a> {
     pub fn absent(&self) -> Vec<usize> {
         (0..THREADS)
             .filter(|id| self.thread(*id, layout::CREATED) == 0)
+            .collect()
+    }
+
+    /// The ids of the objects that are created, or of those that aren't; `place` tells where the bytes of one begin.
+    fn objects(&self, count: usize, place: fn(usize) -> usize, created: bool) -> Vec<usize> {
+        (0..count)
+            .filter(|id| (self.image[place(*id) + layout::CREATED] != 0) == created)
+            .collect()
+    }
+
+    pub fn semaphores(&self, created: bool) -> Vec<usize> {
+        self.objects(SEMAPHORES, layout::semaphore, created)
+    }
+
+    pub fn mutexes(&self, created: bool) -> Vec<usize> {
+        self.objects(MUTEXES, layout::mutex, created)
+    }
+
+    pub fn flag_objects(&self, created: bool) -> Vec<usize> {
+        self.objects(FLAG_OBJECTS, layout::flags, created)
+    }
+
+    /// Where the timers stand that were started at some time, or the others.
+    pub fn timers(&self, started: bool) -> Vec<usize> {
+        (0..TIMERS)
+            .map(layout::timer)
+            .filter(|at| (self.word(at + layout::TIMER_PERIOD) > 0) == started)
             .collect()
     }
 

@@ -3,14 +3,15 @@
 
 use super::crowd::crowd;
 use super::draft::{Draft, FLAGS_WAIT, READY};
+use crate::calls::flags::condition_holds;
 use crate::image::layout::{
-    self, CHOSEN, CLOCK, CREATED, FLAGS_WORD, MUTEX_DEPTH, MUTEX_OWNER, NONE_CHOSEN, SCHEDULING, SCHEDULING_OFF,
-    SCHEDULING_ON, SEMAPHORE_COUNT, SEMAPHORE_MAXIMUM, THREAD_BASE, THREAD_CURRENT, THREAD_DELIVERED, THREAD_LIMIT,
-    THREAD_MASK, THREAD_MODE, THREAD_QUANTUM, THREAD_QUANTUM_LEFT, THREAD_RESULT, TIMER_COUNT, TIMER_KIND, TIMER_LEFT,
-    TIMER_MASK, TIMER_OBJECT, TIMER_PERIOD, TIMER_REPEAT,
+    self, CHOSEN, CLOCK, FLAGS_WORD, MUTEX_DEPTH, MUTEX_OWNER, NONE_CHOSEN, SCHEDULING, SCHEDULING_OFF, SCHEDULING_ON,
+    SEMAPHORE_COUNT, SEMAPHORE_MAXIMUM, THREAD_BASE, THREAD_CURRENT, THREAD_DELIVERED, THREAD_LIMIT, THREAD_MASK,
+    THREAD_MODE, THREAD_QUANTUM, THREAD_QUANTUM_LEFT, THREAD_RESULT, TIMER_COUNT, TIMER_KIND, TIMER_LEFT, TIMER_MASK,
+    TIMER_OBJECT, TIMER_PERIOD, TIMER_REPEAT,
 };
 use crate::random::Random;
-use crate::table::{ListName, FLAG_OBJECTS, MUTEXES, SEMAPHORES, TIMERS};
+use crate::table::{ListName, FLAG_OBJECTS};
 
 #[derive(Clone, Copy, PartialEq, Eq, Debug)]
 pub enum Edit {
@@ -113,30 +114,22 @@ fn clock(draft: &mut Draft) -> Option<()> {
     Some(())
 }
 
-fn used_timer(draft: &mut Draft) -> Option<usize> {
-    let used: Vec<usize> = (0..TIMERS)
-        .map(layout::timer)
-        .filter(|at| draft.word(at + TIMER_PERIOD) > 0)
-        .collect();
-    draft.pick(&used)
-}
-
 fn expiry_count(draft: &mut Draft) -> Option<()> {
-    let at = used_timer(draft)?;
+    let at = draft.pick(&draft.timers(true))?;
     let count = near_the_end(draft);
     draft.put_word(at + TIMER_COUNT, count);
     Some(())
 }
 
 fn timer_left(draft: &mut Draft) -> Option<()> {
-    let at = used_timer(draft)?;
+    let at = draft.pick(&draft.timers(true))?;
     let left = draft.number(0, draft.word(at + TIMER_PERIOD));
     draft.put_word(at + TIMER_LEFT, left);
     Some(())
 }
 
 fn period(draft: &mut Draft) -> Option<()> {
-    let at = used_timer(draft)?;
+    let at = draft.pick(&draft.timers(true))?;
     let left = draft.word(at + TIMER_LEFT);
     let period = draft.number(left.max(1), u32::MAX);
     let repeat = draft.between(0, 1);
@@ -146,14 +139,11 @@ fn period(draft: &mut Draft) -> Option<()> {
 }
 
 fn action(draft: &mut Draft) -> Option<()> {
-    let at = used_timer(draft)?;
-    let created = |at: usize| draft.image[at + CREATED] != 0;
-    let semaphores: Vec<usize> = (0..SEMAPHORES).filter(|id| created(layout::semaphore(*id))).collect();
-    let flag_objects: Vec<usize> = (0..FLAG_OBJECTS).filter(|id| created(layout::flags(*id))).collect();
+    let at = draft.pick(&draft.timers(true))?;
     let (kind, object, mask) = match draft.between(0, 2) {
         0 => (0, 0, 0),
-        1 => (1, draft.pick(&semaphores)?, 0),
-        _ => (2, draft.pick(&flag_objects)?, draft.number(1, 65_535)),
+        1 => (1, draft.pick(&draft.semaphores(true))?, 0),
+        _ => (2, draft.pick(&draft.flag_objects(true))?, draft.number(1, 65_535)),
     };
     draft.put(at + TIMER_KIND, kind);
     draft.put(at + TIMER_OBJECT, object as u32);
@@ -211,9 +201,7 @@ fn limit(draft: &mut Draft) -> Option<()> {
 }
 
 fn mutexes(draft: &Draft, owned: bool) -> Vec<usize> {
-    let created = (0..MUTEXES)
-        .map(layout::mutex)
-        .filter(|at| draft.image[at + CREATED] != 0);
+    let created = draft.mutexes(true).into_iter().map(layout::mutex);
     created
         .filter(|at| (draft.image[at + MUTEX_DEPTH] > 0) == owned)
         .collect()
@@ -275,14 +263,8 @@ fn raise(draft: &mut Draft) -> Option<()> {
     Some(())
 }
 
-fn semaphores(draft: &Draft) -> Vec<usize> {
-    (0..SEMAPHORES)
-        .filter(|id| draft.image[layout::semaphore(*id) + CREATED] != 0)
-        .collect()
-}
-
 fn count(draft: &mut Draft) -> Option<()> {
-    let mut without_waiters = semaphores(draft);
+    let mut without_waiters = draft.semaphores(true);
     without_waiters.retain(|id| draft.length(ListName::SemaphoreWait(*id)) == 0);
     let at = layout::semaphore(draft.pick(&without_waiters)?);
     let count = draft.number(0, draft.half(at + SEMAPHORE_MAXIMUM));
@@ -291,36 +273,23 @@ fn count(draft: &mut Draft) -> Option<()> {
 }
 
 fn maximum(draft: &mut Draft) -> Option<()> {
-    let at = layout::semaphore(draft.pick(&semaphores(draft))?);
+    let at = layout::semaphore(draft.pick(&draft.semaphores(true))?);
     let count = draft.half(at + SEMAPHORE_COUNT);
     let maximum = draft.number(count.max(1), 65_535);
     draft.put_half(at + SEMAPHORE_MAXIMUM, maximum);
     Some(())
 }
 
-/// Whether a condition holds (01, Calls: the modes).
-fn holds(mode: u32, mask: u32, word: u32) -> bool {
-    match mode {
-        0 => word & mask != 0,
-        1 => word & mask == mask,
-        2 => word & mask != mask,
-        _ => word & mask == 0,
-    }
-}
-
 fn waiter_goes_on_waiting(draft: &Draft, id: usize, word: u32) -> bool {
     let mask = draft.half(layout::thread(id) + THREAD_MASK);
-    !holds(draft.thread(id, THREAD_MODE), mask, word)
+    !condition_holds(word, mask, draft.thread(id, THREAD_MODE))
 }
 
 /// How many draws a change may take that not every draw allows.
 const DRAWS: u32 = 30;
 
 fn word(draft: &mut Draft) -> Option<()> {
-    let created: Vec<usize> = (0..FLAG_OBJECTS)
-        .filter(|id| draft.image[layout::flags(*id) + CREATED] != 0)
-        .collect();
-    let id = draft.pick(&created)?;
+    let id = draft.pick(&draft.flag_objects(true))?;
     let waiters = draft.ids(ListName::FlagsWait(id));
     let old = draft.half(layout::flags(id) + FLAGS_WORD);
     for _ in 0..DRAWS {
@@ -347,7 +316,7 @@ fn mask_and_mode(draft: &mut Draft) -> Option<()> {
         let one_bit = 1 << draft.between(0, 15);
         let any = draft.number(1, 65_535);
         let mask = draft.pick(&[one_bit, any])?;
-        if !holds(mode, mask, word) {
+        if !condition_holds(word, mask, mode) {
             draft.put_half(layout::thread(waiter) + THREAD_MASK, mask);
             draft.put_thread(waiter, THREAD_MODE, mode);
             return Some(());

@@ -6,7 +6,7 @@ use crate::image::layout::{
     self, CREATED, FLAGS_WORD, MUTEX_DEPTH, MUTEX_OWNER, SEMAPHORE_COUNT, SEMAPHORE_MAXIMUM, THREAD_MASK, THREAD_MODE,
 };
 use crate::sound::Clause;
-use crate::table::{ListName, FLAG_OBJECTS, MUTEXES, SEMAPHORES, THREADS};
+use crate::table::{ListName, THREADS};
 
 pub fn damage(clause: Clause, draft: &mut Draft) -> Option<()> {
     match clause {
@@ -45,30 +45,27 @@ struct Object {
 }
 
 fn semaphores(draft: &Draft, created: bool) -> Vec<Object> {
-    let all = (0..SEMAPHORES).map(|id| Object {
+    let object = |id| Object {
         waiters: ListName::SemaphoreWait(id),
         at: layout::semaphore(id),
-    });
-    all.filter(|object| (draft.image[object.at + CREATED] != 0) == created)
-        .collect()
+    };
+    draft.semaphores(created).into_iter().map(object).collect()
 }
 
 fn mutexes(draft: &Draft, created: bool) -> Vec<Object> {
-    let all = (0..MUTEXES).map(|id| Object {
+    let object = |id| Object {
         waiters: ListName::MutexWait(id),
         at: layout::mutex(id),
-    });
-    all.filter(|object| (draft.image[object.at + CREATED] != 0) == created)
-        .collect()
+    };
+    draft.mutexes(created).into_iter().map(object).collect()
 }
 
 fn flag_objects(draft: &Draft, created: bool) -> Vec<Object> {
-    let all = (0..FLAG_OBJECTS).map(|id| Object {
+    let object = |id| Object {
         waiters: ListName::FlagsWait(id),
         at: layout::flags(id),
-    });
-    all.filter(|object| (draft.image[object.at + CREATED] != 0) == created)
-        .collect()
+    };
+    draft.flag_objects(created).into_iter().map(object).collect()
 }
 
 fn with_waiters(draft: &Draft, objects: Vec<Object>) -> Vec<Object> {

@@ -6,7 +6,7 @@ use crate::image::layout::{
     THREAD_QUANTUM, THREAD_QUANTUM_LEFT, THREAD_RESULT,
 };
 use crate::sound::Clause;
-use crate::table::{ListName, MUTEXES};
+use crate::table::ListName;
 
 pub fn damage(clause: Clause, draft: &mut Draft) -> Option<()> {
     match clause {
@@ -124,8 +124,8 @@ fn current_below_base(draft: &mut Draft) -> Option<()> {
 fn current_above_base(draft: &mut Draft) -> Option<()> {
     let mut no_owners = draft.created();
     no_owners.retain(|id| !draft.owns_a_mutex(*id) && draft.current(*id) > 0);
-    let unowned = |at: usize| draft.image[at + CREATED] != 0 && draft.image[at + MUTEX_DEPTH] == 0;
-    let named_as_owner = (0..MUTEXES).map(layout::mutex).any(unowned);
+    let unowned = |id: usize| draft.image[layout::mutex(id) + MUTEX_DEPTH] == 0;
+    let named_as_owner = draft.mutexes(true).into_iter().any(unowned);
     let better: Vec<usize> = no_owners
         .iter()
         .copied()

@@ -2,10 +2,10 @@
 
 use super::draft::Draft;
 use crate::image::layout::{
-    self, CREATED, TIMER_COUNT, TIMER_KIND, TIMER_LEFT, TIMER_MASK, TIMER_OBJECT, TIMER_PERIOD, TIMER_REPEAT,
+    self, TIMER_COUNT, TIMER_KIND, TIMER_LEFT, TIMER_MASK, TIMER_OBJECT, TIMER_PERIOD, TIMER_REPEAT,
 };
 use crate::sound::Clause;
-use crate::table::{FLAG_OBJECTS, SEMAPHORES, TIMERS};
+use crate::table::{FLAG_OBJECTS, SEMAPHORES};
 
 pub fn damage(clause: Clause, draft: &mut Draft) -> Option<()> {
     match clause {
@@ -25,24 +25,15 @@ pub fn damage(clause: Clause, draft: &mut Draft) -> Option<()> {
     }
 }
 
-/// Where a timer stands that was started at some time.
-fn used(draft: &mut Draft) -> Option<usize> {
-    let used: Vec<usize> = (0..TIMERS)
-        .map(layout::timer)
-        .filter(|at| draft.word(at + TIMER_PERIOD) > 0)
-        .collect();
-    draft.pick(&used)
-}
-
 fn repeat_range(draft: &mut Draft) -> Option<()> {
-    let at = used(draft)?;
+    let at = draft.pick(&draft.timers(true))?;
     let repeat = draft.number(2, 255);
     draft.put(at + TIMER_REPEAT, repeat);
     Some(())
 }
 
 fn left_above_period(draft: &mut Draft) -> Option<()> {
-    let at = used(draft)?;
+    let at = draft.pick(&draft.timers(true))?;
     let period = draft.word(at + TIMER_PERIOD);
     let left = draft.word(at + TIMER_LEFT);
     if left >= 2 && (draft.coin() || period == u32::MAX) {
@@ -59,11 +50,7 @@ fn left_above_period(draft: &mut Draft) -> Option<()> {
 
 /// A field of a timer never started, or the period of one that was.
 fn period_zero_not_zero(draft: &mut Draft) -> Option<()> {
-    let unused: Vec<usize> = (0..TIMERS)
-        .map(layout::timer)
-        .filter(|at| draft.word(at + TIMER_PERIOD) == 0)
-        .collect();
-    let at = match draft.pick(&unused) {
+    let at = match draft.pick(&draft.timers(false)) {
         Some(at) => at,
         None => return period_taken_away(draft),
     };
@@ -81,7 +68,7 @@ fn period_zero_not_zero(draft: &mut Draft) -> Option<()> {
 }
 
 fn period_taken_away(draft: &mut Draft) -> Option<()> {
-    let at = used(draft)?;
+    let at = draft.pick(&draft.timers(true))?;
     draft.put_word(at + TIMER_PERIOD, 0);
     if draft.image[at..at + layout::TIMER_BYTES].iter().all(|byte| *byte == 0) {
         draft.put_word(at + TIMER_COUNT, 1);
@@ -97,52 +84,40 @@ fn put_action(draft: &mut Draft, at: usize, kind: u32, object: u32, mask: u32) -
 }
 
 fn kind_range(draft: &mut Draft) -> Option<()> {
-    let at = used(draft)?;
+    let at = draft.pick(&draft.timers(true))?;
     let kind = draft.number(3, 255);
     draft.put(at + TIMER_KIND, kind);
     Some(())
 }
 
 fn nothing_with_object(draft: &mut Draft) -> Option<()> {
-    let at = used(draft)?;
+    let at = draft.pick(&draft.timers(true))?;
     let object = draft.number(1, 255);
     put_action(draft, at, 0, object, 0)
 }
 
 fn nothing_with_mask(draft: &mut Draft) -> Option<()> {
-    let at = used(draft)?;
+    let at = draft.pick(&draft.timers(true))?;
     let mask = draft.number(1, 65_535);
     put_action(draft, at, 0, 0, mask)
 }
 
-fn semaphore(draft: &mut Draft, created: bool) -> Option<u32> {
-    let mut ids: Vec<usize> = (0..SEMAPHORES).collect();
-    ids.retain(|id| (draft.image[layout::semaphore(*id) + CREATED] != 0) == created);
-    draft.pick(&ids).map(|id| id as u32)
-}
-
-fn flag_object(draft: &mut Draft, created: bool) -> Option<u32> {
-    let mut ids: Vec<usize> = (0..FLAG_OBJECTS).collect();
-    ids.retain(|id| (draft.image[layout::flags(*id) + CREATED] != 0) == created);
-    draft.pick(&ids).map(|id| id as u32)
-}
-
 fn post_object_range(draft: &mut Draft) -> Option<()> {
-    let at = used(draft)?;
+    let at = draft.pick(&draft.timers(true))?;
     let object = draft.number(SEMAPHORES as u32, 255);
     put_action(draft, at, 1, object, 0)
 }
 
 fn post(draft: &mut Draft, created: bool, with_mask: bool) -> Option<()> {
-    let at = used(draft)?;
-    let object = semaphore(draft, created)?;
+    let at = draft.pick(&draft.timers(true))?;
+    let object = draft.pick(&draft.semaphores(created))? as u32;
     let mask = if with_mask { draft.number(1, 65_535) } else { 0 };
     put_action(draft, at, 1, object, mask)
 }
 
 /// The objects 4 to 7 are semaphores' ids, but no flag object's.
 fn set_object_range(draft: &mut Draft) -> Option<()> {
-    let at = used(draft)?;
+    let at = draft.pick(&draft.timers(true))?;
     let highest = draft.pick(&[SEMAPHORES as u32 - 1, 255])?;
     let object = draft.number(FLAG_OBJECTS as u32, highest);
     let mask = draft.number(1, 65_535);
@@ -150,8 +125,8 @@ fn set_object_range(draft: &mut Draft) -> Option<()> {
 }
 
 fn set(draft: &mut Draft, created: bool, with_mask: bool) -> Option<()> {
-    let at = used(draft)?;
-    let object = flag_object(draft, created)?;
+    let at = draft.pick(&draft.timers(true))?;
+    let object = draft.pick(&draft.flag_objects(created))? as u32;
     let mask = if with_mask { draft.number(1, 65_535) } else { 0 };
     put_action(draft, at, 2, object, mask)
 }

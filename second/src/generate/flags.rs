@@ -18,14 +18,8 @@ pub fn pick(scene: &mut Scene) -> Request {
 }
 
 fn create(scene: &mut Scene) -> Request {
-    let objects = scene.objects;
-    let absent: Vec<usize> = objects
-        .flags
-        .iter()
-        .copied()
-        .filter(|id| !scene.table.flags[*id].created)
-        .collect();
-    let id = scene.random.any(&absent).unwrap_or(scene.random.of(&objects.flags));
+    let (table, objects) = (scene.table, scene.objects);
+    let id = scene.id_to_create(&objects.flags, |id| table.flags[id].created);
     let word = match scene.random.below(4) {
         0 => 0,
         1 => HIGHEST_WORD,

@@ -30,14 +30,8 @@ fn runs_at_full_depth(scene: &Scene) -> bool {
 }
 
 fn create(scene: &mut Scene) -> Request {
-    let objects = scene.objects;
-    let absent: Vec<usize> = objects
-        .mutexes
-        .iter()
-        .copied()
-        .filter(|id| !scene.table.mutexes[*id].created)
-        .collect();
-    let id = scene.random.any(&absent).unwrap_or(scene.random.of(&objects.mutexes));
+    let (table, objects) = (scene.table, scene.objects);
+    let id = scene.id_to_create(&objects.mutexes, |id| table.mutexes[id].created);
     request(CREATE_MUTEX, id, &[])
 }
 

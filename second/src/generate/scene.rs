@@ -58,6 +58,12 @@ impl Scene<'_> {
         self.semaphores(|_| true)
     }
 
+    /// One of these ids that isn't created, where there is one; else any of them.
+    pub fn id_to_create(&mut self, ids: &[usize], is_created: impl Fn(usize) -> bool) -> usize {
+        let absent: Vec<usize> = ids.iter().copied().filter(|id| !is_created(*id)).collect();
+        self.random.any(&absent).unwrap_or(self.random.of(ids))
+    }
+
     /// Created semaphores that pass the test.
     pub fn semaphores(&self, test: impl Fn(&Semaphore) -> bool) -> Vec<usize> {
         let passes = |id: &usize| self.table.semaphores[*id].created && test(&self.table.semaphores[*id]);

@@ -18,17 +18,8 @@ pub fn pick(scene: &mut Scene) -> Request {
 
 /// Small ones that fill up soon, and now and then the largest.
 fn create(scene: &mut Scene) -> Request {
-    let objects = scene.objects;
-    let absent: Vec<usize> = objects
-        .semaphores
-        .iter()
-        .copied()
-        .filter(|id| !scene.table.semaphores[*id].created)
-        .collect();
-    let id = scene
-        .random
-        .any(&absent)
-        .unwrap_or(scene.random.of(&objects.semaphores));
+    let (table, objects) = (scene.table, scene.objects);
+    let id = scene.id_to_create(&objects.semaphores, |id| table.semaphores[id].created);
     let maximum = scene.random.of(&[1, 1, 2, 3, 5, HIGHEST_MAXIMUM]);
     let count = match scene.random.below(6) {
         0 => maximum,
