@@ -21,6 +21,12 @@ insert-at zero x l = x ∷ l
 insert-at (suc n) x [] = x ∷ []
 insert-at (suc n) x (y ∷ ys) = y ∷ insert-at n x ys
 
+-- the element at a place taken out
+abbrev pub remove-at : {A : Type 0} → ℕ → List A → List A
+remove-at n [] = []
+remove-at zero (x ∷ xs) = xs
+remove-at (suc n) (x ∷ xs) = x ∷ remove-at n xs
+
 -- x behind all others
 abbrev pub snoc : {A : Type 0} → A → List A → List A
 snoc x l = l ++ x ∷ []

@@ -1,0 +1,156 @@
+-- How often an id stands in lists. Where it stands is then a matter of sums, and that a list has room one of counting.
+use mathlib.Core.Path.{_≡_, refl, sym, _∙_, ap}
+use mathlib.Core.Bool.{Bool, true, false, cond, not, _||_}
+use mathlib.Core.List.{List, [], _∷_, _++_}
+use Prim.Native.Nat.{ℕ, zero, suc, _+_, _-_, _*_, _<_, _≤_}
+use native.Mathlib.Decide.{ℕ-discrete}
+use native.Mathlib.Nat.{zero-add}
+use native.Mathlib.Omega.{arith}
+use borrow.Author.Tests.{eq-eqb, ne-eqb, lt-ltb, le-ltb}
+use lib.Dec.{eqb, ltb}
+use lib.ListN.{length, getD, set, take, drop, length-append, take-append-drop}
+use Rattle.sequences.specs.Lists.{alter, insert-at, count, count-all, among, among-any, without, only, first-at}
+use Rattle.sequences.proofs.Places.{insert-at-split}
+
+-- ---- one list
+
+pub count-append : (x : ℕ) (a b : List ℕ) → count x (a ++ b) ≡ count x a + count x b
+count-append x [] b = omega arith
+count-append x (y ∷ a) b = let e = count-append x a b in omega arith
+
+pub count-insert : (x k y : ℕ) (l : List ℕ) → count x (insert-at k y l) ≡ count x (y ∷ []) + count x l
+count-insert x zero y l = omega arith
+count-insert x (suc k) y [] = omega arith
+count-insert x (suc k) y (z ∷ l) = let e = count-insert x k y l in omega arith
+
+pub count-at-most : (x : ℕ) (l : List ℕ) → count x l ≤ length l
+count-at-most x [] = omega arith
+count-at-most x (y ∷ l) =
+    let r = count-at-most x l in
+    elim (ℕ-discrete y x) [
+      | yes s ↦ rw (eq-eqb y x s) (omega arith)
+      | no s ↦ rw (ne-eqb y x s) (omega arith)
+    ]
+
+-- what is there counts
+pub count-there : (l : List ℕ) (k : ℕ) → k < length l → 0 < count (getD l k 0) l
+count-there [] k h = absurd (omega arith)
+count-there (y ∷ l) zero h = rw (eq-eqb y y refl) (omega arith)
+count-there (y ∷ l) (suc k) h = let e = count-there l k (omega arith) in omega arith
+
+-- what counts is there
+pub count-place : (x : ℕ) (l : List ℕ) → 0 < count x l → first-at (λ y. eqb y x) l < length l
+count-place x [] h = absurd (omega arith)
+count-place x (y ∷ l) h =
+    let r = count-place x l in
+    elim (ℕ-discrete y x) [
+      | yes s ↦ rw (eq-eqb y x s) (omega arith)
+      | no s ↦ rw (ne-eqb y x s) (omega (arith, r (simp (ne-eqb y x s, zero-add) at h)))
+    ]
+
+pub among-count : (x : ℕ) (l : List ℕ) → among x l ≡ ltb 0 (count x l)
+among-count x [] = refl
+among-count x (y ∷ l) =
+    let r = among-count x l in
+    elim (ℕ-discrete y x) [
+      | yes s ↦ rw (eq-eqb y x s) (sym (lt-ltb 0 (1 + count x l) (omega arith)))
+      | no s ↦ rw (ne-eqb y x s, zero-add) r
+    ]
+
+-- ---- taken out
+
+pub length-without : (x : ℕ) (l : List ℕ) → count x l + length (without x l) ≡ length l
+length-without x [] = refl
+length-without x (y ∷ ys) =
+    let r = length-without x ys in
+    elim (ℕ-discrete y x) [
+      | yes s ↦ rw (eq-eqb y x s) (omega arith)
+      | no s ↦ rw (ne-eqb y x s) (omega arith)
+    ]
+
+pub count-gone : (x : ℕ) (l : List ℕ) → count x (without x l) ≡ 0
+count-gone x [] = refl
+count-gone x (y ∷ ys) =
+    let r = count-gone x ys in
+    elim (ℕ-discrete y x) [
+      | yes s ↦ rw (eq-eqb y x s) r
+      | no s ↦ rw (ne-eqb y x s) (rw (ne-eqb y x s) (omega arith))
+    ]
+
+pub count-kept : (x z : ℕ) (l : List ℕ) → (x ≡ z → ⊥) → count z (without x l) ≡ count z l
+count-kept x z [] n = refl
+count-kept x z (y ∷ ys) n =
+    let r = count-kept x z ys n in
+    elim (ℕ-discrete y x) [
+      | yes s ↦ rw (eq-eqb y x s, ne-eqb y z (λ e. n (sym s ∙ e))) (omega arith)
+      | no s ↦ rw (ne-eqb y x s) (ap (λ (k : ℕ). cond (eqb y z) 1 0 + k) r)
+    ]
+
+-- ---- split by a test: those that pass and those that don't are all
+
+pub count-split : (f : ℕ → Bool) (x : ℕ) (l : List ℕ) → count x (only f l) + count x (only (λ y. not (f y)) l) ≡ count x l
+count-split f x [] = refl
+count-split f x (y ∷ ys) = by-test (f y) (count-split f x ys)
+  where
+    by-test : (b : Bool) → count x (only f ys) + count x (only (λ y. not (f y)) ys) ≡ count x ys
+        → count x (cond b (y ∷ only f ys) (only f ys)) + count x (cond (not b) (y ∷ only (λ y. not (f y)) ys) (only (λ y. not (f y)) ys))
+        ≡ count x (y ∷ ys)
+    by-test true r = omega arith
+    by-test false r = omega arith
+
+-- ---- several lists
+
+pub count-all-at : (x : ℕ) (ls : List (List ℕ)) (p : ℕ) → count x (getD ls p []) ≤ count-all x ls
+count-all-at x [] p = omega arith
+count-all-at x (l ∷ ls) zero = omega arith
+count-all-at x (l ∷ ls) (suc p) = let e = count-all-at x ls p in omega arith
+
+-- in two of them
+pub count-all-two : (x : ℕ) (ls : List (List ℕ)) (p q : ℕ) → (p ≡ q → ⊥) → count x (getD ls p []) + count x (getD ls q []) ≤ count-all x ls
+count-all-two x [] p q n = omega arith
+count-all-two x (l ∷ ls) zero zero n = absurd (n refl)
+count-all-two x (l ∷ ls) zero (suc q) n = let e = count-all-at x ls q in omega arith
+count-all-two x (l ∷ ls) (suc p) zero n = let e = count-all-at x ls p in omega arith
+count-all-two x (l ∷ ls) (suc p) (suc q) n = let e = count-all-two x ls p q (λ e. n (ap suc e)) in omega arith
+
+pub count-all-append : (x : ℕ) (a b : List (List ℕ)) → count-all x (a ++ b) ≡ count-all x a + count-all x b
+count-all-append x [] b = omega arith
+count-all-append x (l ∷ a) b = let e = count-all-append x a b in omega arith
+
+pub count-all-alter : (x p : ℕ) (g : List ℕ → List ℕ) (ls : List (List ℕ)) → p < length ls
+    → count-all x (alter p g ls) + count x (getD ls p []) ≡ count-all x ls + count x (g (getD ls p []))
+count-all-alter x p g [] h = absurd (omega arith)
+count-all-alter x zero g (l ∷ ls) h = omega arith
+count-all-alter x (suc p) g (l ∷ ls) h = let e = count-all-alter x p g ls (omega arith) in omega arith
+
+pub among-any-count : (x : ℕ) (ls : List (List ℕ)) → among-any x ls ≡ ltb 0 (count-all x ls)
+among-any-count x [] = refl
+among-any-count x (l ∷ ls) = rw (among-count x l, among-any-count x ls) (or-sum (count x l) (count-all x ls))
+  where
+    or-sum : (a b : ℕ) → ltb 0 a || ltb 0 b ≡ ltb 0 (a + b)
+    or-sum zero b = rw zero-add
+    or-sum (suc a) b = rw (lt-ltb 0 (suc a) (omega arith), lt-ltb 0 (suc a + b) (omega arith))
+
+-- ---- ids below n that differ are n at most
+
+empty-of : (l : List ℕ) → ((x : ℕ) → count x l ≡ 0) → length l ≡ 0
+empty-of [] h = refl
+empty-of (y ∷ l) h = absurd (omega (arith, count-there (y ∷ l) 0 (omega arith), h y))
+
+pub few : (n : ℕ) (l : List ℕ) → ((x : ℕ) → count x l ≤ 1) → ((x : ℕ) → n ≤ x → count x l ≡ 0) → length l ≤ n
+few zero l o k = let e = empty-of l (λ x. k x (omega arith)) in omega arith
+few (suc n) l o k =
+    let r =
+        few n (without n l)
+        (λ x.
+        elim (ℕ-discrete n x) [
+          | yes s ↦ rw (← s, count-gone n l) (omega arith)
+          | no s ↦ rw (count-kept n x l s) (o x)
+        ])
+        (λ x h.
+        elim (ℕ-discrete n x) [
+          | yes s ↦ rw (← s) (count-gone n l)
+          | no s ↦ rw (count-kept n x l s) (k x (omega arith))
+        ])
+    in
+    omega (arith, length-without n l, o n)
