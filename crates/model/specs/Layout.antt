@@ -24,6 +24,10 @@ Rows = List (List ℕ)
 abbrev pub ids-of : IdList → List ℕ
 ids-of l = take (l .length) (l .ids)
 
+-- what stands for a list where there is none
+abbrev pub no-ids : IdList
+no-ids = record { length = 0; ids = [] }
+
 unfoldable pub view : Table → Rows → State
 view t rows =
     record {

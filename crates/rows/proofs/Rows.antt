@@ -1,5 +1,5 @@
 -- What one store, or one part of a row copied within it, does to the list that the row holds; and a row stored among rows. For any room.
-use mathlib.Core.Path.{_≡_, refl, sym, _∙_, ap}
+use mathlib.Core.Path.{_≡_, sym, _∙_, ap}
 use mathlib.Core.List.{List, [], _∷_, _++_, append-assoc}
 use Prim.Native.Nat.{ℕ, zero, suc, _+_, _-_, _≤_, _<_}
 use native.Mathlib.Decide.{ℕ-discrete}
@@ -8,7 +8,7 @@ use native.Mathlib.Omega.{arith}
 use lib.ListN.{length, take, drop, set, getD, length-set, length-append, length-replicate, length-drop}
 use lib.Seq.{paste, length-paste-head, take-suc-set, drop-set-lt, drop-drop, drop-cons, set-at, take-at, drop-at, take-take, take-add, take-suc, length-take-le}
 use lib.Seq.{getD-set-same, getD-set-other}
-use Rattle.sequences.specs.Lists.{insert-at, remove-at, snoc, take-each, alter}
+use Rattle.sequences.specs.Lists.{insert-at, remove-at, snoc, take-each}
 use Rattle.sequences.proofs.Places.{insert-at-split, remove-at-split, take-each-at, take-each-set, length-take-each, alter-set}
 use Rattle.rows.specs.Row.{Row, Held, Rows, Changed, blanks}
 

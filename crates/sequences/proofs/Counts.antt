@@ -1,16 +1,18 @@
 -- How often an id stands in lists. Where it stands is then a matter of sums, and that a list has room one of counting.
 use mathlib.Core.Path.{_≡_, refl, sym, _∙_, ap}
-use mathlib.Core.Bool.{Bool, true, false, cond, not, _||_}
+use mathlib.Core.Bool.{Bool, true, false, cond, not, _||_, or-false, or-assoc}
 use mathlib.Core.List.{List, [], _∷_, _++_}
-use Prim.Native.Nat.{ℕ, zero, suc, _+_, _-_, _*_, _<_, _≤_}
-use native.Mathlib.Decide.{ℕ-discrete}
+use Prim.Native.Nat.{ℕ, zero, suc, _+_, _<_, _≤_}
+use native.Mathlib.Decide.{ℕ-discrete, decLt}
 use native.Mathlib.Nat.{zero-add}
+use native.Mathlib.Numerals.{add-one}
 use native.Mathlib.Omega.{arith}
-use borrow.Author.Tests.{eq-eqb, ne-eqb, lt-ltb, le-ltb}
+use borrow.Author.Tests.{eq-eqb, ne-eqb, lt-ltb, ltb-true, ltb-false}
 use lib.Dec.{eqb, ltb}
-use lib.ListN.{length, getD, set, take, drop, length-append, take-append-drop}
+use lib.ListN.{length, getD, take}
+use lib.Seq.{take-suc}
 use Rattle.sequences.specs.Lists.{alter, insert-at, count, count-all, among, among-any, without, only, first-at}
-use Rattle.sequences.proofs.Places.{insert-at-split}
+use Rattle.sequences.proofs.Searches.{first-passes}
 
 -- ---- one list
 
@@ -105,6 +107,15 @@ count-all-at x [] p = omega arith
 count-all-at x (l ∷ ls) zero = omega arith
 count-all-at x (l ∷ ls) (suc p) = let e = count-all-at x ls p in omega arith
 
+-- in some of them
+pub count-all-place : (x : ℕ) (ls : List (List ℕ)) → 0 < count-all x ls → (p : ℕ) × (0 < count x (getD ls p []))
+count-all-place x [] h = absurd (omega arith)
+count-all-place x (l ∷ ls) h =
+    elim (decLt 0 (count x l)) [
+      | yes k ↦ (0, k)
+      | no k ↦ let r = count-all-place x ls (omega arith) in (suc (r .0), r .1)
+    ]
+
 -- in two of them
 pub count-all-two : (x : ℕ) (ls : List (List ℕ)) (p q : ℕ) → (p ≡ q → ⊥) → count x (getD ls p []) + count x (getD ls q []) ≤ count-all x ls
 count-all-two x [] p q n = omega arith
@@ -123,13 +134,35 @@ count-all-alter x p g [] h = absurd (omega arith)
 count-all-alter x zero g (l ∷ ls) h = omega arith
 count-all-alter x (suc p) g (l ∷ ls) h = let e = count-all-alter x p g ls (omega arith) in omega arith
 
+pub or-sum : (a b : ℕ) → ltb 0 a || ltb 0 b ≡ ltb 0 (a + b)
+or-sum zero b = rw zero-add
+or-sum (suc a) b = rw (lt-ltb 0 (suc a) (omega arith), lt-ltb 0 (suc a + b) (omega arith))
+
 pub among-any-count : (x : ℕ) (ls : List (List ℕ)) → among-any x ls ≡ ltb 0 (count-all x ls)
 among-any-count x [] = refl
 among-any-count x (l ∷ ls) = rw (among-count x l, among-any-count x ls) (or-sum (count x l) (count-all x ls))
+
+-- one list more
+pub among-any-grown : (x : ℕ) (ls : List (List ℕ)) (n : ℕ) → n < length ls → among-any x (take (n + 1) ls) ≡ among-any x (take n ls) || among x (getD ls n [])
+among-any-grown x ls n h = rw (add-one, take-suc ls n [] h) (snoc-any (take n ls) (getD ls n []))
   where
-    or-sum : (a b : ℕ) → ltb 0 a || ltb 0 b ≡ ltb 0 (a + b)
-    or-sum zero b = rw zero-add
-    or-sum (suc a) b = rw (lt-ltb 0 (suc a) (omega arith), lt-ltb 0 (suc a + b) (omega arith))
+    snoc-any : (a : List (List ℕ)) (l : List ℕ) → among-any x (a ++ (l ∷ [])) ≡ among-any x a || among x l
+    snoc-any [] l = or-false (among x l)
+    snoc-any (k ∷ a) l = ap (λ (b : Bool). among x k || b) (snoc-any a l) ∙ sym (or-assoc (among x k) (among-any x a) (among x l))
+
+-- the first list that an id stands on, and none
+module _ (x : ℕ) where
+  pub first-list : (ls : List (List ℕ)) → first-at (among x) ls < length ls → 0 < count x (getD ls (first-at (among x) ls) [])
+  first-list ls h = ltb-true 0 _ (sym (among-count x (getD ls (first-at (among x) ls) [])) ∙ first-passes (among x) [] ls h)
+
+  pub no-list : (ls : List (List ℕ)) → length ls ≤ first-at (among x) ls → count-all x ls ≡ 0
+  no-list [] h = refl
+  no-list (l ∷ ls) h = by-test (among x l) (sym (among-count x l)) h (no-list ls)
+    where
+      by-test : (b : Bool) → ltb 0 (count x l) ≡ b → suc (length ls) ≤ cond b 0 (suc (first-at (among x) ls)) → (length ls ≤ first-at (among x) ls → count-all x ls ≡ 0)
+          → count-all x (l ∷ ls) ≡ 0
+      by-test true e k r = absurd (omega arith)
+      by-test false e k r = let z = ltb-false 0 (count x l) e in let q = r (omega arith) in omega arith
 
 -- ---- ids below n that differ are n at most
 
@@ -141,16 +174,16 @@ pub few : (n : ℕ) (l : List ℕ) → ((x : ℕ) → count x l ≤ 1) → ((x :
 few zero l o k = let e = empty-of l (λ x. k x (omega arith)) in omega arith
 few (suc n) l o k =
     let r =
-        few n (without n l)
-        (λ x.
-        elim (ℕ-discrete n x) [
-          | yes s ↦ rw (← s, count-gone n l) (omega arith)
-          | no s ↦ rw (count-kept n x l s) (o x)
-        ])
-        (λ x h.
-        elim (ℕ-discrete n x) [
-          | yes s ↦ rw (← s) (count-gone n l)
-          | no s ↦ rw (count-kept n x l s) (k x (omega arith))
-        ])
+    few n (without n l)
+    (λ x.
+    elim (ℕ-discrete n x) [
+      | yes s ↦ rw (← s, count-gone n l) (omega arith)
+      | no s ↦ rw (count-kept n x l s) (o x)
+    ])
+    (λ x h.
+    elim (ℕ-discrete n x) [
+      | yes s ↦ rw (← s) (count-gone n l)
+      | no s ↦ rw (count-kept n x l s) (k x (omega arith))
+    ])
     in
     omega (arith, length-without n l, o n)

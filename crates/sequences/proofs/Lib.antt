@@ -4,3 +4,6 @@ pub mod Searches
 pub mod Counts
 pub mod Removal
 pub mod Padding
+pub mod Highest
+pub mod Bounds
+pub mod Slices

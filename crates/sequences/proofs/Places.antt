@@ -1,7 +1,7 @@
 -- One place of a list: an element changed, put in or taken out, also seen through a map or through rows with their lengths beside them.
 use mathlib.Core.Path.{_≡_, refl, sym, _∙_, ap}
 use mathlib.Core.List.{List, [], _∷_, _++_, map}
-use Prim.Native.Nat.{ℕ, zero, suc, _+_, _-_, _<_, _≤_}
+use Prim.Native.Nat.{ℕ, zero, suc, _+_, _<_, _≤_}
 use native.Mathlib.Decide.{ℕ-discrete}
 use native.Mathlib.Omega.{arith}
 use lib.ListN.{length, take, drop, getD, set, List·getD-map}
@@ -30,12 +30,35 @@ module _ {A : Type 0} where
   alter-other g (suc j) (x ∷ xs) zero d n = refl
   alter-other g (suc j) (x ∷ xs) (suc i) d n = alter-other g j xs i d (λ e. n (ap suc e))
 
+  -- what a change leaves alone is as it was at every place
+  pub alter-keeps : {B : Type 0} (f : A → B) (g : A → A) → ((a : A) → f (g a) ≡ f a) → (j : ℕ) (l : List A) (i : ℕ) (d : A) → f (getD (alter j g l) i d) ≡ f (getD l i d)
+  alter-keeps f g e zero [] i d = refl
+  alter-keeps f g e (suc j) [] i d = refl
+  alter-keeps f g e zero (x ∷ xs) zero d = e x
+  alter-keeps f g e zero (x ∷ xs) (suc i) d = refl
+  alter-keeps f g e (suc j) (x ∷ xs) zero d = refl
+  alter-keeps f g e (suc j) (x ∷ xs) (suc i) d = alter-keeps f g e j xs i d
+
+  -- past the end nothing changes
+  pub alter-out : (g : A → A) (j : ℕ) (l : List A) → length l ≤ j → alter j g l ≡ l
+  alter-out g zero [] h = refl
+  alter-out g zero (x ∷ xs) h = absurd (omega arith)
+  alter-out g (suc j) [] h = refl
+  alter-out g (suc j) (x ∷ xs) h = ap (λ l. x ∷ l) (alter-out g j xs (omega arith))
+
   -- a store of the changed element, with no question about the place
   pub alter-set : (g : A → A) (d : A) (l : List A) (j : ℕ) → set l j (g (getD l j d)) ≡ alter j g l
   alter-set g d [] zero = refl
   alter-set g d [] (suc j) = refl
   alter-set g d (x ∷ xs) zero = refl
   alter-set g d (x ∷ xs) (suc j) = ap (λ l. x ∷ l) (alter-set g d xs j)
+
+  pub alter-stored : (g : A → A) (d : A) (l : List A) (j : ℕ) → alter j (λ (x : A). g (getD l j d)) l ≡ alter j g l
+  alter-stored g d l j = sym (alter-set (λ (x : A). g (getD l j d)) d l j) ∙ alter-set g d l j
+
+  -- changes that do the same to the element at a place are the same there
+  pub alter-alike : (g h : A → A) (d : A) (l : List A) (j : ℕ) → g (getD l j d) ≡ h (getD l j d) → alter j g l ≡ alter j h l
+  alter-alike g h d l j e = sym (alter-set g d l j) ∙ ap (set l j) e ∙ alter-set h d l j
 
   -- what holds of each element still does
   pub every-set : (P : A → Type 0) (d : A) (l : List A) (n j : ℕ) (a : A) → n ≤ length l → P a

@@ -1,14 +1,15 @@
 -- Tests over all of something: what one that passed says of each, and how one passes. Loops that leave at the first failure go by
 -- `every-below`: what is done so far has passed.
 use mathlib.Core.Path.{_≡_, refl, sym, _∙_, ap}
-use mathlib.Core.Bool.{Bool, true, false, cond, not, _&&_, _||_}
-use mathlib.Core.List.{List, [], _∷_}
-use Prim.Native.Nat.{ℕ, zero, suc, _+_, _-_, _<_, _≤_}
+use mathlib.Core.Bool.{Bool, true, false, _&&_, _||_, and-true, and-assoc}
+use mathlib.Core.List.{List, [], _∷_, map}
+use Prim.Native.Nat.{ℕ, zero, suc, _+_, _<_}
+use native.Mathlib.Nat.{add-zero, add-suc}
 use native.Mathlib.Decide.{ℕ-discrete}
 use native.Mathlib.Omega.{arith}
 use native.Mathlib.Numerals.{add-one}
 use lib.ListN.{length, getD}
-use Rattle.sequences.specs.Lists.{every, every-below, all-true}
+use Rattle.sequences.specs.Lists.{every, every-below, some-below, all-true}
 
 -- ---- truth values
 
@@ -28,6 +29,11 @@ same-truth true b f g = sym (f refl)
 same-truth false true f g = g refl
 same-truth false false f g = refl
 
+-- what can't be true is false
+pub untrue : (b : Bool) → (b ≡ true → false ≡ true) → b ≡ false
+untrue true g = sym (g refl)
+untrue false g = refl
+
 pub all-true-at : (l : List Bool) (k : ℕ) → all-true l ≡ true → getD l k true ≡ true
 all-true-at [] k h = refl
 all-true-at (b ∷ bs) zero h = left b (all-true bs) h
@@ -36,10 +42,6 @@ all-true-at (b ∷ bs) (suc k) h = all-true-at bs k (right b (all-true bs) h)
 -- ---- all numbers below n
 
 module _ (f : ℕ → Bool) where
-  pub every-below-next : (n : ℕ) → every-below n f ≡ true → f n ≡ true → every-below (n + 1) f ≡ true
-  unfolding every-below
-  every-below-next n h e = rw add-one (both h e)
-
   pub every-below-at : (n k : ℕ) → k < n → every-below n f ≡ true → f k ≡ true
   unfolding every-below
   every-below-at zero k h e = absurd (omega arith)
@@ -50,16 +52,50 @@ module _ (f : ℕ → Bool) where
       ]
 
   pub every-below-fails : (n k : ℕ) → k < n → f k ≡ false → every-below n f ≡ false
-  every-below-fails n k h e = fails (every-below n f) (λ t. sym e ∙ every-below-at n k h t)
-    where
-      fails : (b : Bool) → (b ≡ true → false ≡ true) → b ≡ false
-      fails true g = sym (g refl)
-      fails false g = refl
+  every-below-fails n k h e = untrue (every-below n f) (λ t. sym e ∙ every-below-at n k h t)
 
   pub every-below-from : (n : ℕ) → ((k : ℕ) → k < n → f k ≡ true) → every-below n f ≡ true
   unfolding every-below
   every-below-from zero h = refl
   every-below-from (suc n) h = both (every-below-from n (λ k l. h k (omega arith))) (h n (omega arith))
+
+  -- a loop's turn: what has passed so far, and one more
+  pub every-below-grown : (n : ℕ) {a b : Bool} → a ≡ every-below n f → b ≡ f n → a && b ≡ every-below (n + 1) f
+  unfolding every-below
+  every-below-grown n p q = rw (add-one, p, q)
+
+  pub some-below-grown : (n : ℕ) {a b : Bool} → a ≡ some-below n f → b ≡ f n → a || b ≡ some-below (n + 1) f
+  unfolding some-below
+  some-below-grown n p q = rw (add-one, p, q)
+
+pub every-below-same : (f g : ℕ → Bool) (n : ℕ) → ((k : ℕ) → k < n → f k ≡ g k) → every-below n f ≡ every-below n g
+every-below-same f g n h =
+    same-truth (every-below n f) (every-below n g)
+    (λ e. every-below-from g n (λ k l. sym (h k l) ∙ every-below-at f n k l e))
+    (λ e. every-below-from f n (λ k l. h k l ∙ every-below-at g n k l e))
+
+pub every-below-both : (f g : ℕ → Bool) (n : ℕ) → every-below n (λ k. f k && g k) ≡ every-below n f && every-below n g
+every-below-both f g n =
+    same-truth (every-below n (λ k. f k && g k)) (every-below n f && every-below n g)
+    (λ e.
+    both (every-below-from f n (λ k l. left (f k) (g k) (every-below-at (λ k. f k && g k) n k l e)))
+    (every-below-from g n (λ k l. right (f k) (g k) (every-below-at (λ k. f k && g k) n k l e))))
+    (λ e.
+    every-below-from (λ k. f k && g k) n
+    (λ k l.
+    both (every-below-at f n k l (left (every-below n f) (every-below n g) e)) (every-below-at g n k l (right (every-below n f) (every-below n g) e))))
+
+-- the first m, and the n behind them
+pub every-below-split : (f : ℕ → Bool) (m n : ℕ) → every-below (m + n) f ≡ every-below m f && every-below n (λ k. f (m + k))
+unfolding every-below
+every-below-split f m zero = rw (add-zero m) (sym (and-true (every-below m f)))
+every-below-split f m (suc n) =
+    rw (add-suc m n, every-below-split f m n) (and-assoc (every-below m f) (every-below n (λ k. f (m + k))) (f (m + n)))
+
+-- every place passes all of several tests exactly where each of them passes at every place
+pub every-below-all : (n : ℕ) (fs : List (ℕ → Bool)) → every-below n (λ k. all-true (map (λ (f : ℕ → Bool). f k) fs)) ≡ all-true (map (every-below n) fs)
+every-below-all n [] = every-below-from (λ k. true) n (λ k l. refl)
+every-below-all n (f ∷ fs) = every-below-both f (λ k. all-true (map (λ (f : ℕ → Bool). f k) fs)) n ∙ ap (λ (b : Bool). every-below n f && b) (every-below-all n fs)
 
 -- ---- all elements of a list
 

@@ -1,3 +1,4 @@
+-- A row's first places are its list.
 use borrow.Author.Needs.{needs}
 use Rattle.rows.proofs.Rows.{list-at}
 use Rattle.rows.proofs.eight.find.Statement.{statement}

@@ -1,3 +1,4 @@
+-- One row stored anew; its list is the one that changes.
 use Rattle.sequences.specs.Lists.{snoc}
 use borrow.Author.Needs.{needs}
 use Rattle.rows.proofs.Rows.{stored}

@@ -1,11 +1,11 @@
 -- `row::copied` meets its contract: after i turns the first i ids are pasted.
-use Prim.Native.Nat.{ℕ, _+_, _≤_, _<_, _-_}
-use mathlib.Core.Path.{_≡_, refl, sym, _∙_, ap}
+use Prim.Native.Nat.{_≤_, _<_, _-_}
+use mathlib.Core.Path.{_≡_}
 use native.Mathlib.Omega.{arith}
 use native.Mathlib.Numerals.{add-one}
 use borrow.Author.Needs.{needs}
-use lib.ListN.{length, getD, drop, set, length-drop, length-set}
-use lib.Seq.{paste, paste-zero, paste-suc, length-paste, getD-drop}
+use lib.ListN.{length, drop, length-drop}
+use lib.Seq.{paste, paste-zero, paste-suc, getD-drop}
 use Rattle.rows.proofs.row.copied.Statement.{statement}
 use Rattle.rows.proofs.row.copied.Tie as tie
 

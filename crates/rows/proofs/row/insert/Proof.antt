@@ -1,3 +1,4 @@
+-- The part from k on copied one place on, and x at k.
 use borrow.Author.Needs.{needs}
 use Rattle.rows.proofs.Rows.{inserted}
 use Rattle.rows.proofs.row.insert.Statement.{statement}

@@ -1,3 +1,4 @@
+-- One store behind the last.
 use borrow.Author.Needs.{needs}
 use Rattle.rows.proofs.Rows.{pushed}
 use Rattle.rows.proofs.row.push.Statement.{statement}

@@ -1,3 +1,4 @@
+-- The part past k copied to k, and a zero at the last place.
 use borrow.Author.Needs.{needs}
 use Rattle.rows.proofs.Rows.{removed}
 use Rattle.rows.proofs.row.remove.Statement.{statement}

@@ -1,0 +1,131 @@
+-- What follows from where threads stand: who is off all lists leaves room on each, and who leaves is off them. Leaving, and a change of
+-- anything but current priorities, keep it.
+use mathlib.Core.Path.{_≡_, refl, _∙_, ap}
+use mathlib.Core.List.{List, [], _∷_, map}
+use Prim.Native.Nat.{ℕ, _<_, _≤_}
+use native.Mathlib.Decide.{ℕ-discrete, decLt}
+use native.Mathlib.Omega.{arith}
+use borrow.Author.Tests.{eq-eqb, ne-eqb}
+use lib.ListN.{length, getD, length-map, List·getD-map}
+use Rattle.sequences.specs.Lists.{count, count-all, without}
+use Rattle.sequences.proofs.Counts.{count-all-at, count-gone, count-kept, few}
+use Rattle.sequences.proofs.Places.{length-alter, alter-keeps, alter-other, alter-at, alter-out}
+use Rattle.model.specs.declared.tables.Thread.{Thread}
+use Rattle.model.specs.State.{State, absent-thread}
+use Rattle.model.specs.Parts.{thread, ready-list, list, alter-thread, with-current}
+use Rattle.model.specs.Words.{leave}
+use Rattle.placed.specs.Placed.{Placed, standing}
+
+-- ---- leaving all lists
+
+count-all-gone : (i : ℕ) (ls : List (List ℕ)) → count-all i (map (without i) ls) ≡ 0
+count-all-gone i [] = refl
+count-all-gone i (l ∷ ls) = let a = count-gone i l in let b = count-all-gone i ls in omega arith
+
+count-all-kept : (i x : ℕ) (ls : List (List ℕ)) → (i ≡ x → ⊥) → count-all x (map (without i) ls) ≡ count-all x ls
+count-all-kept i x [] n = refl
+count-all-kept i x (l ∷ ls) n = let a = count-kept i x l n in let b = count-all-kept i x ls n in omega arith
+
+module _ (i : ℕ) (s : State) where
+  pub leave-gone : standing i (leave i s) ≡ 0
+  unfolding leave
+  leave-gone = let a = count-all-gone i (s .ready) in let b = count-all-gone i (s .waits) in omega arith
+
+  pub leave-kept : (x : ℕ) → (i ≡ x → ⊥) → standing x (leave i s) ≡ standing x s
+  unfolding leave
+  leave-kept x n = let a = count-all-kept i x (s .ready) n in let b = count-all-kept i x (s .waits) n in omega arith
+
+  pub leave-fewer : (x : ℕ) → standing x (leave i s) ≤ standing x s
+  leave-fewer x =
+      elim (ℕ-discrete i x) [
+        | yes e ↦ rw (← e) (omega (arith, leave-gone))
+        | no n ↦ omega (arith, leave-kept x n)
+      ]
+
+-- what is left of a list was in it
+count-without : (i x : ℕ) (l : List ℕ) → count x (without i l) ≤ count x l
+count-without i x l =
+    elim (ℕ-discrete i x) [
+      | yes e ↦ rw (← e) (omega (arith, count-gone i l))
+      | no n ↦ omega (arith, count-kept i x l n)
+    ]
+
+pub leave-placed : (i : ℕ) (s : State) → Placed s → Placed (leave i s)
+unfolding leave
+leave-placed i s w =
+    record {
+      threads = w .threads;
+      ready = length-map (s .ready) (without i) ∙ w .ready;
+      waits = length-map (s .waits) (without i) ∙ w .waits;
+      once = λ x. omega (arith, leave-fewer i s x, w .once x);
+      known = λ x h. omega (arith, leave-fewer i s x, w .known x h);
+      level = λ p x h. w .level p x (still p x h);
+      priorities = w .priorities;
+    }
+  where
+    still : (p x : ℕ) → 0 < count x (getD (map (without i) (s .ready)) p []) → 0 < count x (getD (s .ready) p [])
+    still p x h =
+        let e : getD (map (without i) (s .ready)) p [] ≡ without i (getD (s .ready) p []) = List·getD-map (without i) (s .ready) p [] in
+        omega (arith, count-without i x (getD (s .ready) p []), rw e at h)
+
+-- ---- a thread's record changed, but for its current priority
+
+pub alter-placed : (i : ℕ) (g : Thread → Thread) (s : State) → ((t : Thread) → g t .current ≡ t .current) → Placed s → Placed (alter-thread i g s)
+alter-placed i g s same w =
+    record {
+      threads = length-alter i g (s .threads) ∙ w .threads;
+      ready = w .ready;
+      waits = w .waits;
+      once = w .once;
+      known = w .known;
+      level = λ p x h. still x ∙ w .level p x h;
+      priorities = λ x. rw (still x) (w .priorities x);
+    }
+  where
+    still : (x : ℕ) → thread x (alter-thread i g s) .current ≡ thread x s .current
+    still x = alter-keeps (λ (t : Thread). t .current) g same i (s .threads) x absent-thread
+
+-- ---- a new current priority, for a thread off all lists
+
+pub current-placed : (i p : ℕ) (s : State) → p < 8 → standing i s ≡ 0 → Placed s → Placed (alter-thread i (with-current p) s)
+current-placed i p s below off w =
+    record {
+      threads = length-alter i (with-current p) (s .threads) ∙ w .threads;
+      ready = w .ready;
+      waits = w .waits;
+      once = w .once;
+      known = w .known;
+      level = λ q x h. same x (λ e. absurd (omega (arith, rw e at h, count-all-at i (s .ready) q))) ∙ w .level q x h;
+      priorities = λ x.
+          elim (ℕ-discrete x i) [
+            | yes e ↦ rw e (own (decLt i (length (s .threads))))
+            | no n ↦ rw (same x n) (w .priorities x)
+          ];
+    }
+  where
+    same : (x : ℕ) → (x ≡ i → ⊥) → thread x (alter-thread i (with-current p) s) .current ≡ thread x s .current
+    same x n = ap (λ (t : Thread). t .current) (alter-other (with-current p) i (s .threads) x absent-thread n)
+
+    own : Dec (i < length (s .threads)) → thread i (alter-thread i (with-current p) s) .current < 8
+    own (yes h) = rw (alter-at (with-current p) i (s .threads) absent-thread h) below
+    own (no h) = rw (alter-out (with-current p) i (s .threads) (omega arith)) (w .priorities i)
+
+-- ---- room
+
+module _ {s : State} (w : Placed s) (i : ℕ) (below : i < 16) (off : standing i s ≡ 0) where
+  -- it and a list that it isn't on are different threads
+  one-more : (l : List ℕ) → ((x : ℕ) → count x l ≤ standing x s) → (x : ℕ) → (count x (i ∷ l) ≤ 1) × (16 ≤ x → count x (i ∷ l) ≡ 0)
+  one-more l h x =
+      elim (ℕ-discrete i x) [
+        | yes e ↦ let z : count x l ≡ 0 = rw (← e) (omega (arith, h i)) in rw (eq-eqb i x e) (omega arith, λ k. absurd (omega arith))
+        | no n ↦ rw (ne-eqb i x n) (omega (arith, h x, w .once x), λ k. omega (arith, h x, w .known x k))
+      ]
+
+  room : (l : List ℕ) → ((x : ℕ) → count x l ≤ standing x s) → length l < 16
+  room l h = few 16 (i ∷ l) (λ x. one-more l h x .0) (λ x. one-more l h x .1)
+
+  pub room-ready : (p : ℕ) → length (ready-list p s) < 16
+  room-ready p = room (ready-list p s) (λ x. omega (arith, count-all-at x (s .ready) p))
+
+  pub room-list : (j : ℕ) → length (list j s) < 16
+  room-list j = room (list j s) (λ x. omega (arith, count-all-at x (s .waits) j))

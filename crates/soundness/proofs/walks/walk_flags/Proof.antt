@@ -1,0 +1,72 @@
+-- `walks::walk_flags` meets its contract: after o turns the lists of the first o flag objects have been gone over.
+use mathlib.Core.Path.{_≡_}
+use mathlib.Core.Bool.{Bool}
+use mathlib.Core.List.{List, map}
+use Prim.Native.Nat.{ℕ, _+_, _-_, _≤_}
+use borrow.Author.Needs.{needs}
+use native.Mathlib.Omega.{arith}
+use lib.ListN.{getD}
+use lib.Seq.{slice}
+use Rattle.sequences.proofs.Tests.{every-below-at}
+use Rattle.model.specs.declared.tables.Thread.{Thread}
+use Rattle.model.specs.declared.tables.Flags.{Flags}
+use Rattle.model.specs.declared.tables.IdList.{IdList}
+use Rattle.model.specs.State.{absent-flags}
+use Rattle.model.specs.Layout.{ids-of}
+use Rattle.soundness.specs.Lists.{wait-list-fits, list-at, list-asks, of-flags}
+use Rattle.soundness.proofs.Walking.{Walking, walking-none, walking-all, part-length, part-more}
+use Rattle.soundness.proofs.walks.walk_flags.Statement.{statement}
+use Rattle.soundness.proofs.walks.walk_flags.Tie as tie
+
+abbrev asks-at : List Thread → List IdList → List Flags → ℕ → Bool
+asks-at threads waits flags o = list-asks of-flags (getD flags o absent-flags .word) threads (ids-of (list-at waits (14 + o)))
+
+abbrev Inv-loop : tie.InvT-loop
+Inv-loop threads waits flags after₀ o₀ after o =
+    (o ≤ 4) × Walking (after₀ .fits) (after₀ .counts) (asks-at threads waits flags) (slice 14 18 (map ids-of waits)) o (after .fits) (after .counts)
+
+abbrev μ-loop : tie.MeasureT-loop
+μ-loop threads waits flags after₀ o₀ after o = 4 - o
+
+loop-holds : tie.Need-loop-holds Inv-loop μ-loop
+loop-holds c = (omega arith, walking-none _ _ (search needs) (c .pre .1))
+
+walk-list-requires : tie.Need-walk-list-requires Inv-loop μ-loop
+walk-list-requires c κs =
+    let b = c .before .before .before in (
+      every-below-at (λ j. wait-list-fits (list-at (b .before .args .t2) j)) 18 (14 + b .loop .o) (omega arith) (b .before .pre .0),
+      λ i h. omega (arith, b .loop .inv .1 .small i h),
+    )
+
+loop-again : tie.Need-loop-again Inv-loop μ-loop
+loop-again c =
+    let b = c .before .before .before .before in
+    let a = b .before .args in (
+      omega arith,
+      part-more (a .t2) (search needs) (b .before .pre .0) 14 18 (omega arith) (omega arith) (asks-at (a .threads) (a .t2) (a .t4)) (omega arith)
+          (b .loop .inv .1) (c .walk-list .ensures),
+    )
+
+returns : tie.Need-returns Inv-loop μ-loop
+returns c =
+    let b = c .before in
+    let end : b .loop .o ≡ 4 = omega arith in
+    walking-all _ _ (rw end at (b .loop .inv .1)) (part-length (b .before .args .t2) (search needs) (b .before .pre .0) 14 18 (omega arith) (omega arith))
+
+pub walk-flags-spec : {M : Type 1} → statement M
+walk-flags-spec =
+    tie.close
+    (tie.spec
+    Inv-loop
+    μ-loop
+    loop-holds
+    (λ c. search needs)
+    (λ c. search needs)
+    (λ c. search needs)
+    (λ c. search needs)
+    (λ c. search needs)
+    walk-list-requires
+    (λ c. search needs)
+    (λ c. search needs)
+    loop-again
+    returns)

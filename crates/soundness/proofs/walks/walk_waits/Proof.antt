@@ -1,0 +1,72 @@
+-- `walks::walk_waits` meets its contract: after k turns the first k of the lists have been gone over.
+use mathlib.Core.Path.{_≡_}
+use mathlib.Core.Bool.{Bool}
+use mathlib.Core.List.{List, map}
+use Prim.Native.Nat.{ℕ, _+_, _-_, _≤_}
+use borrow.Author.Needs.{needs}
+use native.Mathlib.Omega.{arith}
+use lib.Seq.{slice}
+use Rattle.sequences.proofs.Tests.{every-below-at}
+use Rattle.model.specs.declared.tables.Thread.{Thread}
+use Rattle.model.specs.declared.tables.IdList.{IdList}
+use Rattle.model.specs.Layout.{ids-of}
+use Rattle.soundness.specs.Lists.{wait-list-fits, list-at, list-asks}
+use Rattle.soundness.proofs.Walking.{Walking, walking-none, walking-all, part-length, part-more}
+use Rattle.soundness.proofs.walks.walk_waits.Statement.{statement}
+use Rattle.soundness.proofs.walks.walk_waits.Tie as tie
+
+abbrev asks-at : ℕ → List Thread → List IdList → ℕ → ℕ → Bool
+asks-at kind threads waits from k = list-asks kind 0 threads (ids-of (list-at waits (from + k)))
+
+abbrev Inv-loop : tie.InvT-loop
+Inv-loop from to threads kind waits many after₀ k₀ after k =
+    (k ≤ to - from)
+    × Walking (after₀ .fits) (after₀ .counts) (asks-at kind threads waits from) (slice from to (map ids-of waits)) k (after .fits) (after .counts)
+
+abbrev μ-loop : tie.MeasureT-loop
+μ-loop from to threads kind waits many after₀ k₀ after k = to - from - k
+
+loop-holds : tie.Need-loop-holds Inv-loop μ-loop
+loop-holds c = (omega arith, walking-none _ _ (search needs) (c .pre .1 .1))
+
+walk-list-requires : tie.Need-walk-list-requires Inv-loop μ-loop
+walk-list-requires c κs =
+    let b = c .before .before in
+    let a = b .before .args in (
+      every-below-at (λ j. wait-list-fits (list-at (a .t2) j)) 18 (a .from + b .loop .k) (omega arith) (b .before .pre .0),
+      λ i h. omega (arith, b .loop .inv .1 .small i h),
+    )
+
+loop-again : tie.Need-loop-again Inv-loop μ-loop
+loop-again c =
+    let b = c .before .before .before in
+    let a = b .before .args in (
+      omega arith,
+      part-more (a .t2) (search needs) (b .before .pre .0) (a .from) (a .to) (omega arith) (omega arith) (asks-at (a .kind) (a .threads) (a .t2) (a .from))
+          (omega arith) (b .loop .inv .1) (c .walk-list .ensures),
+    )
+
+returns : tie.Need-returns Inv-loop μ-loop
+returns c =
+    let b = c .before in
+    let a = b .before .args in
+    let end : b .loop .k ≡ a .to - a .from = omega arith in
+    let many = part-length (a .t2) (search needs) (b .before .pre .0) (a .from) (a .to) (omega arith) (omega arith) in
+    walking-all _ _ (rw end at (b .loop .inv .1)) many
+
+pub walk-waits-spec : {M : Type 1} → statement M
+walk-waits-spec =
+    tie.close
+    (tie.spec
+    Inv-loop
+    μ-loop
+    (λ c. search needs)
+    loop-holds
+    (λ c. search needs)
+    (λ c. search needs)
+    (λ c. search needs)
+    walk-list-requires
+    (λ c. search needs)
+    (λ c. search needs)
+    loop-again
+    returns)

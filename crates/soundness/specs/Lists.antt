@@ -1,0 +1,68 @@
+-- What the soundness test asks of one list, and how it counts: over the fields as they are stored, whatever they are.
+use mathlib.Core.Bool.{Bool, true, not, _&&_, _||_}
+use mathlib.Core.List.{List, map}
+use mathlib.Core.Path.{_≡_}
+use Prim.Native.Nat.{ℕ, zero, suc, _+_, _<_}
+use lib.Dec.{eqb, leb, ltb}
+use lib.ListN.{length, take, getD}
+use Rattle.sequences.specs.Lists.{count-all, every, falls}
+use Rattle.model.specs.declared.tables.Thread.{Thread}
+use Rattle.model.specs.declared.tables.IdList.{IdList}
+use Rattle.model.specs.State.{thread-count, absent-thread}
+use Rattle.model.specs.Sound.{ids-in-range}
+use Rattle.model.specs.Layout.{row-orderly, no-ids}
+use Rattle.model.specs.Words.{holds}
+
+-- one list as it is stored: room, zeros past its end, and threads' ids before it
+unfoldable pub list-fits : ℕ → List ℕ → Bool
+list-fits n ids = row-orderly n ids && ids-in-range (take n ids)
+
+abbrev pub wait-list-fits : IdList → Bool
+wait-list-fits l = list-fits (l .length) (l .ids)
+
+abbrev pub list-at : List IdList → ℕ → IdList
+list-at waits j = getD waits j no-ids
+
+abbrev pub thread-at : List Thread → ℕ → Thread
+thread-at threads i = getD threads i absent-thread
+
+-- the kinds of lists
+abbrev pub of-ready : ℕ
+of-ready = 0
+
+abbrev pub of-sleep : ℕ
+of-sleep = 1
+
+abbrev pub of-stopped : ℕ
+of-stopped = 2
+
+-- of a semaphore or a mutex
+abbrev pub of-object : ℕ
+of-object = 3
+
+abbrev pub of-flags : ℕ
+of-flags = 4
+
+-- what a list asks of each thread on it: a ready list its priority, the sleep list a limit, a flag object's list a condition that its word
+-- doesn't meet
+unfoldable pub member-fits : ℕ → ℕ → Thread → Bool
+member-fits zero priority t = eqb (t .current) priority
+member-fits (suc zero) nothing t = ltb 0 (t .limit)
+member-fits (suc (suc zero)) nothing t = true
+member-fits (suc (suc (suc zero))) nothing t = true
+member-fits (suc (suc (suc (suc kind)))) word t = not (holds (t .mode) (t .mask) word) && (ltb 0 (t .mask) && leb (t .mode) 3)
+
+-- all that a list asks: of each thread on it, and from an object's list on that the current priorities fall
+unfoldable pub list-asks : ℕ → ℕ → List Thread → List ℕ → Bool
+list-asks kind mark threads ids =
+    every (λ i. member-fits kind mark (thread-at threads i)) ids && (ltb kind of-object || falls (map (λ i. thread-at threads i .current) ids))
+
+-- counts of the sixteen threads, after these lists have been counted too
+pub record Tallied (before : List ℕ) (lists : List (List ℕ)) (after : List ℕ) : Type 0 where
+  pub size : length after ≡ thread-count
+  pub at : (i : ℕ) → i < thread-count → getD after i 0 ≡ getD before i 0 + count-all i lists
+
+-- a walk that had found this much, after it has gone over these lists too, which ask this
+pub record Walked (fits : Bool) (counts : List ℕ) (asked : Bool) (lists : List (List ℕ)) (fits-after : Bool) (counts-after : List ℕ) : Type 0 where
+  pub found : fits-after ≡ (fits && asked)
+  pub tallied : Tallied counts lists counts-after

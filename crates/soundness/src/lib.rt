@@ -1,0 +1,86 @@
+// Whether a table and its rows are sound (01, The table). Any field may hold anything: each pass below is safe on all of them, and a list
+// is walked only once its length and its ids are known to be in range.
+ghost use mathlib.Core.Path.{_≡_};
+ghost use mathlib.Core.Bool.{true, _&&_};
+ghost use Rattle.model.specs.Layout.{view, sound-table};
+ghost use Rattle.soundness.specs.Shape.{Shape};
+ghost use Rattle.soundness.specs.Whole.{lists-fit, members-fit, threads-fit, records-fit};
+use model::tables::Table;
+use walks::Walk;
+
+pub mod choice;
+pub mod lists;
+pub mod objects;
+pub mod threads;
+pub mod timers;
+pub mod walks;
+
+fn lists_fit(t: Table, rows: [[u8; 16]; 8]) -> bool
+    ensures { λ r. ⌜ r ≡ lists-fit t rows ⌝ }
+{
+    let lengths = t.lengths;
+    let waits = t.waits;
+    let ready = lists::ready_lists_fit(rows, lengths);
+    let others = lists::wait_lists_fit(waits);
+    ready & others
+}
+
+// One walk over all lists, the flag objects' first, so that the counts on the way tell who waits for flags and who waits or sleeps; then one
+// over the threads.
+fn threads_fit(t: Table, rows: [[u8; 16]; 8]) -> bool
+    requires { ⌜ Shape t rows ⌝ }
+    requires { ⌜ lists-fit t rows ≡ true ⌝ }
+    ensures { λ r. ⌜ r ≡ (members-fit (view t rows) && threads-fit (view t rows)) ⌝ }
+{
+    let all = t.threads;
+    let waits = t.waits;
+    let flags = t.flags;
+    let lengths = t.lengths;
+    let mutexes = t.mutexes;
+    let none: [u16; 16] = [0; 16];
+    let start = Walk {
+        fits: true,
+        counts: none,
+    };
+    let flagged = walks::walk_flags(start, waits, all, flags);
+    let waiting = walks::walk_waits(flagged, waits, 2, 14, all, 3);
+    let resting = walks::walk_waits(waiting, waits, 0, 1, all, 1);
+    let parked = walks::walk_waits(resting, waits, 1, 2, all, 2);
+    let last = walks::walk_ready(parked, rows, lengths, all);
+    let on_lists = last.counts;
+    let at_rest = resting.counts;
+    let on_flags = flagged.counts;
+    let fits = threads::threads_fit(all, mutexes, on_lists, at_rest, on_flags);
+    last.fits & fits
+}
+
+fn records_fit(t: Table, rows: [[u8; 16]; 8]) -> bool
+    requires { ⌜ Shape t rows ⌝ }
+    requires { ⌜ lists-fit t rows ≡ true ⌝ }
+    ensures { λ r. ⌜ r ≡ records-fit (view t rows) ⌝ }
+{
+    let waits = t.waits;
+    let semaphores = t.semaphores;
+    let mutexes = t.mutexes;
+    let flags = t.flags;
+    let timers = t.timers;
+    let all = t.threads;
+    let a = objects::semaphores_fit(semaphores, waits);
+    let b = objects::mutexes_fit(mutexes, all, waits);
+    let c = objects::all_flags_fit(flags, waits);
+    let d = timers::timers_fit(timers, semaphores, flags);
+    (t.off <= 1) & a & b & c & d
+}
+
+pub fn is_sound(t: Table, rows: [[u8; 16]; 8]) -> bool
+    ensures { λ r. ⌜ r ≡ sound-table t rows ⌝ }
+{
+    if lists_fit(t, rows) {
+        let threads = threads_fit(t, rows);
+        let records = records_fit(t, rows);
+        let chosen = choice::choice_fits(t, rows);
+        threads & records & chosen
+    } else {
+        false
+    }
+}

@@ -1,0 +1,56 @@
+-- A new current priority between leaving and entering again is the model's change and then its move.
+use mathlib.Core.Path.{_≡_, sym, _∙_}
+use mathlib.Core.Bool.{true, false}
+use Prim.Native.Nat.{ℕ, _<_, _≤_}
+use native.Mathlib.Omega.{arith}
+use borrow.Author.Tests.{ltb-false}
+use Rattle.sequences.specs.Lists.{count, count-all}
+use Rattle.sequences.proofs.Counts.{among-any-count, count-all-at}
+use Rattle.model.specs.declared.tables.Table.{Table}
+use Rattle.model.specs.State.{State}
+use Rattle.model.specs.Parts.{alter-thread, with-current}
+use Rattle.model.specs.Layout as layout
+use Rattle.model.specs.Layout.{view, ids-of}
+use Rattle.model.specs.Words.{is-ready, is-waiting, list-of, leave, become-ready, enter-ready, enter-by-priority, re-enter}
+use Rattle.placed.proofs.Standing.{leave-gone, leave-placed, current-placed}
+use Rattle.table.specs.Orderly.{list-at, Given, Meets, Does}
+use Rattle.table.proofs.Rooms.{Off, off-after}
+use Rattle.table.proofs.Views.{does, and-then, list-view}
+
+-- ---- the model's move, by where the thread stands
+
+module _ (i p : ℕ) (s : State) where
+  abbrev changed : State
+  changed = alter-thread i (with-current p) s
+
+  pub re-enter-ready : is-ready i s ≡ true → enter-ready i (alter-thread i (with-current p) (leave i s)) ≡ re-enter i changed
+  unfolding re-enter become-ready leave
+  re-enter-ready h = rw h
+
+  pub re-enter-waiting : is-ready i s ≡ false → is-waiting i s ≡ true → enter-by-priority (list-of i s) i (alter-thread i (with-current p) (leave i s)) ≡ re-enter i changed
+  unfolding re-enter leave
+  re-enter-waiting h k = rw (h, k)
+
+  pub re-enter-other : is-ready i s ≡ false → is-waiting i s ≡ false → changed ≡ re-enter i changed
+  unfolding re-enter
+  re-enter-other h k = rw (h, k)
+
+-- ---- the table in between: the thread is off all lists, with its new priority
+
+pub retaken-off : {t u v : Table} {rows after : layout.Rows} {i : ℕ} → Given t rows i → (p : ℕ) → p < 8 → Does t rows (leave i) u after → Meets u (alter-thread i (with-current p)) v → Off v after i
+retaken-off {t} {u} {v} {rows} {after} {i} g p below d m =
+    let s = view t rows in
+    off-after (and-then d (does after (d .order) m)) (g .thread)
+    (current-placed i p (leave i s) below (leave-gone i s) (leave-placed i s (g .placed)))
+    (leave-gone i s)
+
+-- ---- off a list that is no ready list
+
+module _ {t : Table} {rows : layout.Rows} {i : ℕ} (g : Given t rows i) where
+  pub not-ready : is-ready i (view t rows) ≡ false → count-all i (view t rows .ready) ≡ 0
+  not-ready h =
+      let n = count-all i (view t rows .ready) in
+      omega (arith, ltb-false 0 n (sym (among-any-count i (view t rows .ready)) ∙ h))
+
+  pub once-on : (j : ℕ) → count i (ids-of (list-at t j)) ≤ 1
+  once-on j = rw (← list-view t rows j) (omega (arith, g .placed .once i, count-all-at i (view t rows .waits) j))

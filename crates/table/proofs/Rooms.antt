@@ -1,0 +1,68 @@
+-- Where threads stand as they must: ids in lists are threads', priorities are in range, and a thread off all lists finds room on each.
+use mathlib.Core.Path.{_≡_, refl, ap}
+use Prim.Native.Nat.{ℕ, _<_}
+use native.Mathlib.Decide.{decLt}
+use native.Mathlib.Omega.{arith}
+use lib.ListN.{length, getD}
+use lib.Seq.{getD-take}
+use Rattle.sequences.specs.Lists.{count}
+use Rattle.sequences.proofs.Counts.{count-there, count-all-at}
+use Rattle.rows.proofs.Rows.{length-held, length-at}
+use Rattle.model.specs.declared.tables.Table.{Table}
+use Rattle.model.specs.State.{State, absent-thread}
+use Rattle.model.specs.Parts.{list, alter-thread, with-wait}
+use Rattle.model.specs.Words.{suspend}
+use Rattle.model.specs.Layout as layout
+use Rattle.model.specs.Layout.{view, ids-of}
+use Rattle.placed.specs.Placed.{Placed, standing}
+use Rattle.placed.proofs.Standing.{room-ready, room-list, leave-gone, leave-placed, alter-placed}
+use Rattle.table.specs.Orderly.{list-at, Given, Ranked, Does}
+use Rattle.table.proofs.Views.{list-view}
+
+-- a table on which threads stand as they must, and this one stands on no list
+pub record Off (t : Table) (rows : layout.Rows) (i : ℕ) : Type 0 where
+  pub given : Given t rows i
+  pub off : standing i (view t rows) ≡ 0
+
+module _ {t r : Table} {rows after : layout.Rows} {f : State → State} (d : Does t rows f r after) {i : ℕ} (below : i < 16) (placed : Placed (f (view t rows))) where
+  pub given-after : Given r after i
+  given-after = record { order = d .order; placed = rw (d .view) placed; thread = below }
+
+  pub off-after : standing i (f (view t rows)) ≡ 0 → Off r after i
+  off-after off = record { given = given-after; off = rw (d .view) off }
+
+module _ {t : Table} {rows : layout.Rows} {i : ℕ} (w : Off t rows i) where
+  pub priority-in-range : getD (t .threads) i absent-thread .current < 8
+  unfolding view
+  priority-in-range = w .given .placed .priorities i
+
+  pub row-room : (p : ℕ) → p < 8 → getD (t .lengths) p 0 < 16
+  unfolding view
+  row-room p h = omega (arith, room-ready (w .given .placed) i (w .given .thread) (w .off) p, length-at (w .given .order .ready) p h)
+
+  pub list-room : (j : ℕ) → j < 18 → list-at t j .length < 16
+  list-room j h =
+      omega (arith, room-list (w .given .placed) i (w .given .thread) (w .off) j, ap length (list-view t rows j), length-held (w .given .order .table .lists j h))
+
+  pub ranked : (j : ℕ) → j < 18 → Ranked t j i
+  ranked j h = record { list = h; thread = w .given .thread; ids = below }
+    where
+      there : (k : ℕ) → k < list-at t j .length → 0 < count (getD (list-at t j .ids) k 0) (list j (view t rows))
+      there k l =
+          rw (list-view t rows j, ← getD-take (list-at t j .length) (list-at t j .ids) k 0 l)
+          (count-there (ids-of (list-at t j)) k (omega (arith, length-held (w .given .order .table .lists j h))))
+
+      below : (k : ℕ) → k < list-at t j .length → getD (list-at t j .ids) k 0 < 16
+      below k l =
+          let x = getD (list-at t j .ids) k 0 in
+          elim (decLt x 16) [
+            | yes s ↦ s
+            | no s ↦ absurd (omega (arith, there k l, count-all-at x (view t rows .waits) j, w .given .placed .known x (omega arith)))
+          ]
+
+-- who was suspended is off all lists
+pub suspended-off : {t r : Table} {rows after : layout.Rows} {i : ℕ} → Given t rows i → (limit mask mode : ℕ) → Does t rows (suspend i limit mask mode) r after → Off r after i
+unfolding suspend
+suspended-off {t} {r} {rows} {after} {i} g limit mask mode d =
+    let s = alter-thread i (with-wait limit 0 mask mode) (view t rows) in
+    off-after d (g .thread) (leave-placed i s (alter-placed i (with-wait limit 0 mask mode) (view t rows) (λ x. refl) (g .placed))) (leave-gone i s)

@@ -1,0 +1,57 @@
+-- What a word may assume of the table as it is stored, and what it hands back. `Orderly` is the model's test `orderly` as facts; a word's
+-- result is orderly again, and seen as plain lists it is what the model's word makes of the table.
+use mathlib.Core.Path.{_≡_}
+use mathlib.Core.List.{List}
+use Prim.Native.Nat.{ℕ, _<_}
+use lib.ListN.{length, getD}
+use Rattle.rows.specs.Row.{Row, Rows, Held}
+use Rattle.model.specs.declared.tables.IdList.{IdList}
+use Rattle.model.specs.declared.tables.Table.{Table}
+use Rattle.model.specs.State.{State, thread-count, priority-count, semaphore-count, mutex-count, flags-count, timer-count, list-count, places}
+use Rattle.model.specs.Layout as layout
+use Rattle.model.specs.Layout.{view, no-ids}
+use Rattle.placed.specs.Placed.{Placed}
+
+abbrev pub list-at : Table → ℕ → IdList
+list-at t j = getD (t .waits) j no-ids
+
+-- a stored list that holds these ids
+abbrev pub Listed : IdList → List ℕ → Type 0
+Listed l ids = Held places (l .ids) (l .length) ids
+
+-- the table by itself: each array has its length, and each list is a row
+pub record OrderlyTable (t : Table) : Type 0 where
+  pub threads : length (t .threads) ≡ thread-count
+  pub semaphores : length (t .semaphores) ≡ semaphore-count
+  pub mutexes : length (t .mutexes) ≡ mutex-count
+  pub flags : length (t .flags) ≡ flags-count
+  pub timers : length (t .timers) ≡ timer-count
+  pub waits : length (t .waits) ≡ list-count
+  pub lists : (j : ℕ) → j < list-count → Row places (list-at t j .ids) (list-at t j .length)
+
+pub record Orderly (t : Table) (rows : layout.Rows) : Type 0 where
+  pub table : OrderlyTable t
+  pub ready : Rows places priority-count rows (t .lengths)
+
+-- a word that leaves the rows alone: r is t after f, whatever the rows
+pub record Meets (t : Table) (f : State → State) (r : Table) : Type 0 where
+  pub order : OrderlyTable r
+  pub lengths : r .lengths ≡ t .lengths
+  pub view : (rows : layout.Rows) → view r rows ≡ f (view t rows)
+
+-- a word that changes table and rows
+pub record Does (t : Table) (rows : layout.Rows) (f : State → State) (r : Table) (after : layout.Rows) : Type 0 where
+  pub order : Orderly r after
+  pub view : view r after ≡ f (view t rows)
+
+-- what a word about a thread asks: an orderly table on which threads stand as they must, and a thread's id
+pub record Given (t : Table) (rows : layout.Rows) (i : ℕ) : Type 0 where
+  pub order : Orderly t rows
+  pub placed : Placed (layout.view t rows)
+  pub thread : i < thread-count
+
+-- what the place of thread i in list j asks: both are there, and the list holds threads' ids
+pub record Ranked (t : Table) (j i : ℕ) : Type 0 where
+  pub list : j < list-count
+  pub thread : i < thread-count
+  pub ids : (k : ℕ) → k < list-at t j .length → getD (list-at t j .ids) k 0 < thread-count

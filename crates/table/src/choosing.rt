@@ -1,0 +1,62 @@
+// The choice, and what choosing writes. The rows come by value beside the table and stay as they are.
+ghost use mathlib.Core.Path.{_≡_};
+ghost use Rattle.sequences.specs.Lists.{head-or, last-nonempty, take-each};
+ghost use Rattle.rows.specs.Row.{Rows};
+ghost use Rattle.model.specs.State.{nobody};
+ghost use Rattle.model.specs.Parts.{with-chosen, alter-thread, refilled};
+ghost use Rattle.model.specs.Words.{choose};
+ghost use Rattle.table.specs.Orderly.{Orderly, OrderlyTable, Meets, Does};
+use crate::threads;
+use model::tables::Table;
+
+// The head of the highest ready list that isn't empty, or 255.
+pub fn choice(lengths: [u8; 8], rows: [[u8; 16]; 8]) -> u8
+    requires { ⌜ Rows 16 8 rows lengths ⌝ }
+    ensures { λ r. ⌜ r ≡ head-or (last-nonempty (take-each lengths rows)) nobody ⌝ }
+{
+    let mut above: usize = 8;
+    while 0 < above {
+        let p = above - 1;
+        if 0 < lengths[p] {
+            let row = rows[p];
+            return row[0];
+        }
+        above = p;
+    }
+    255
+}
+
+pub fn with_chosen(t: Table, c: u8) -> Table
+    requires { ⌜ OrderlyTable t ⌝ }
+    ensures { λ r. ⌜ Meets t (with-chosen c) r ⌝ }
+{
+    let mut u = t;
+    u.chosen = c;
+    u
+}
+
+// Nobody's quantum is renewed where nobody is chosen.
+fn choose_anew(t: Table, c: u8) -> Table
+    requires { ⌜ OrderlyTable t ⌝ }
+    ensures { λ r. ⌜ Meets t (λ s. with-chosen c (alter-thread c refilled s)) r ⌝ }
+{
+    if c < 16 {
+        let u = threads::refilled(t, c);
+        with_chosen(u, c)
+    } else {
+        with_chosen(t, c)
+    }
+}
+
+pub fn choose(t: Table, rows: [[u8; 16]; 8]) -> Table
+    requires { ⌜ Orderly t rows ⌝ }
+    ensures { λ r. ⌜ Does t rows choose r rows ⌝ }
+{
+    let lengths = t.lengths;
+    let c = choice(lengths, rows);
+    if (t.off == 0) & (c != t.chosen) {
+        choose_anew(t, c)
+    } else {
+        t
+    }
+}

@@ -1,0 +1,81 @@
+// A fresh table and its rows (01, The table): nothing created, every number 0, every list empty, scheduling on, nobody chosen.
+ghost use mathlib.Core.Path.{_≡_};
+ghost use Rattle.model.specs.Layout.{fresh-table, fresh-rows};
+use model::tables::Flags;
+use model::tables::IdList;
+use model::tables::Mutex;
+use model::tables::Semaphore;
+use model::tables::Table;
+use model::tables::Thread;
+use model::tables::Timer;
+
+pub fn fresh() -> Table
+    ensures { λ r. ⌜ r ≡ fresh-table ⌝ }
+{
+    let thread = Thread {
+        created: 0,
+        base: 0,
+        current: 0,
+        quantum: 0,
+        left: 0,
+        limit: 0,
+        result: 0,
+        mask: 0,
+        mode: 0,
+        delivered: 0,
+    };
+    let timer = Timer {
+        period: 0,
+        left: 0,
+        repeat: 0,
+        kind: 0,
+        object: 0,
+        mask: 0,
+        count: 0,
+    };
+    let semaphore = Semaphore {
+        created: 0,
+        count: 0,
+        maximum: 0,
+    };
+    let mutex = Mutex {
+        created: 0,
+        owner: 0,
+        depth: 0,
+    };
+    let object = Flags {
+        created: 0,
+        word: 0,
+    };
+    let ids = [0u8; 16];
+    let list = IdList {
+        length: 0,
+        ids: ids,
+    };
+    let threads = [thread; 16];
+    let semaphores = [semaphore; 8];
+    let mutexes = [mutex; 4];
+    let flags = [object; 4];
+    let timers = [timer; 8];
+    let lengths = [0u8; 8];
+    let waits = [list; 18];
+    Table {
+        clock: 0,
+        off: 0,
+        chosen: 255,
+        threads: threads,
+        semaphores: semaphores,
+        mutexes: mutexes,
+        flags: flags,
+        timers: timers,
+        lengths: lengths,
+        waits: waits,
+    }
+}
+
+pub fn fresh_rows() -> [[u8; 16]; 8]
+    ensures { λ r. ⌜ r ≡ fresh-rows ⌝ }
+{
+    let row = [0u8; 16];
+    [row; 8]
+}

@@ -1,0 +1,49 @@
+// Which list holds a thread. Only the list of its current priority is looked at for a ready one: soundness lets it stand on no other.
+ghost use mathlib.Core.Path.{_≡_};
+ghost use mathlib.Core.List.{map};
+ghost use Prim.Native.Nat.{ℕ, _<_};
+ghost use lib.ListN.{getD};
+ghost use Rattle.sequences.specs.Lists.{among, first-at};
+ghost use Rattle.rows.specs.Row.{Row};
+ghost use Rattle.model.specs.Layout.{view, ids-of, no-ids};
+ghost use Rattle.model.specs.Words.{is-ready};
+ghost use Rattle.table.specs.Orderly.{OrderlyTable, Given};
+use crate::lists;
+use crate::threads;
+use model::tables::IdList;
+use model::tables::Table;
+
+pub fn is_ready(t: Table, rows: [[u8; 16]; 8], i: u8) -> bool
+    requires { ⌜ Given t rows i ⌝ }
+    ensures { λ r. ⌜ r ≡ is-ready i (view t rows) ⌝ }
+{
+    let x = threads::thread(t, i);
+    let p = x.current as usize;
+    let lengths = t.lengths;
+    let k = rows::eight::find(rows, lengths, p, i);
+    k < (lengths[p] as usize)
+}
+
+fn first_with(waits: [IdList; 18], i: u8) -> usize
+    requires { ⌜ ((j : ℕ) → j < 18 → Row 16 (getD waits j no-ids .ids) (getD waits j no-ids .length)) ⌝ }
+    ensures { λ r. ⌜ r ≡ first-at (among i) (map ids-of waits) ⌝ }
+{
+    let mut j: usize = 0;
+    while j < 18 {
+        let l = waits[j];
+        if lists::holds_id(l, i) {
+            return j;
+        }
+        j += 1;
+    }
+    j
+}
+
+// The number of the list that it stands on, where that is no ready list; 18 where there is none.
+pub fn list_of(t: Table, i: u8) -> usize
+    requires { ⌜ OrderlyTable t ⌝ }
+    ensures { λ r. ⌜ r ≡ first-at (among i) (map ids-of (t .waits)) ⌝ }
+{
+    let waits = t.waits;
+    first_with(waits, i)
+}

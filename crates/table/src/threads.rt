@@ -1,0 +1,63 @@
+// A thread's record read, and written with all else as it was.
+ghost use mathlib.Core.Path.{_≡_};
+ghost use Prim.Native.Nat.{ℕ, _<_};
+ghost use lib.ListN.{getD};
+ghost use Rattle.model.specs.State.{absent-thread};
+ghost use Rattle.model.specs.Parts.{alter-thread, with-wait, with-current, refilled};
+ghost use Rattle.table.specs.Orderly.{OrderlyTable, Meets};
+use model::tables::Table;
+use model::tables::Thread;
+
+pub fn thread(t: Table, i: u8) -> Thread
+    requires { ⌜ i < 16 ⌝ }
+    ensures { λ r. ⌜ r ≡ getD (t .threads) i absent-thread ⌝ }
+{
+    let k = i as usize;
+    t.threads[k]
+}
+
+pub fn with_thread(t: Table, i: u8, x: Thread) -> Table
+    requires { ⌜ OrderlyTable t ⌝ }
+    requires { ⌜ i < 16 ⌝ }
+    ensures { λ r. ⌜ Meets t (alter-thread i (λ _. x)) r ⌝ }
+{
+    let k = i as usize;
+    let mut u = t;
+    u.threads[k] = x;
+    u
+}
+
+// What a wait, its end and a call that needn't wait write.
+pub fn with_wait(t: Table, i: u8, limit: u32, result: u8, mask: u16, mode: u8) -> Table
+    requires { ⌜ OrderlyTable t ⌝ }
+    requires { ⌜ i < 16 ⌝ }
+    ensures { λ r. ⌜ Meets t (alter-thread i (with-wait limit result mask mode)) r ⌝ }
+{
+    let mut x = thread(t, i);
+    x.limit = limit;
+    x.result = result;
+    x.mask = mask;
+    x.mode = mode;
+    with_thread(t, i, x)
+}
+
+pub fn with_current(t: Table, i: u8, p: u8) -> Table
+    requires { ⌜ OrderlyTable t ⌝ }
+    requires { ⌜ i < 16 ⌝ }
+    ensures { λ r. ⌜ Meets t (alter-thread i (with-current p)) r ⌝ }
+{
+    let mut x = thread(t, i);
+    x.current = p;
+    with_thread(t, i, x)
+}
+
+// Its quantum left is its quantum again.
+pub fn refilled(t: Table, i: u8) -> Table
+    requires { ⌜ OrderlyTable t ⌝ }
+    requires { ⌜ i < 16 ⌝ }
+    ensures { λ r. ⌜ Meets t (alter-thread i refilled) r ⌝ }
+{
+    let mut x = thread(t, i);
+    x.left = x.quantum;
+    with_thread(t, i, x)
+}

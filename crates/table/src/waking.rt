@@ -1,0 +1,58 @@
+// Ready, waiting, asleep, awake (01, Calls, the rules under the table).
+ghost use Prim.Native.Nat.{ℕ, _<_};
+ghost use Rattle.model.specs.Words.{become-ready, suspend, start-to-wait, start-to-sleep, wake};
+ghost use Rattle.table.specs.Orderly.{Given, Does};
+use crate::entering;
+use crate::leaving;
+use crate::threads;
+use model::tables::Table;
+
+pub fn become_ready(t: Table, rows: &mut [[u8; 16]; 8], i: u8) -> Table
+    requires { ⌜ Given t (now rows) i ⌝ }
+    ensures { λ r. ⌜ Does t (now (rows .entry)) (become-ready i) r (now (rows .exit)) ⌝ }
+{
+    let u = leaving::leave(t, &mut *rows, i);
+    entering::enter_ready(u, &mut *rows, i)
+}
+
+// Off its list, with no result yet.
+pub fn suspend(t: Table, rows: &mut [[u8; 16]; 8], i: u8, limit: u32, mask: u16, mode: u8) -> Table
+    requires { ⌜ Given t (now rows) i ⌝ }
+    ensures { λ r. ⌜ Does t (now (rows .entry)) (suspend i limit mask mode) r (now (rows .exit)) ⌝ }
+{
+    let u = threads::with_wait(t, i, limit, 0, mask, mode);
+    leaving::leave(u, &mut *rows, i)
+}
+
+pub fn start_to_wait(
+    t: Table,
+    rows: &mut [[u8; 16]; 8],
+    j: usize,
+    i: u8,
+    limit: u32,
+    mask: u16,
+    mode: u8,
+) -> Table
+    requires { ⌜ Given t (now rows) i ⌝ }
+    requires { ⌜ j < 18 ⌝ }
+    ensures { λ r. ⌜ Does t (now (rows .entry)) (start-to-wait j i limit mask mode) r (now (rows .exit)) ⌝ }
+{
+    let u = suspend(t, &mut *rows, i, limit, mask, mode);
+    entering::enter_by_priority(u, j, i)
+}
+
+pub fn start_to_sleep(t: Table, rows: &mut [[u8; 16]; 8], i: u8, span: u32) -> Table
+    requires { ⌜ Given t (now rows) i ⌝ }
+    ensures { λ r. ⌜ Does t (now (rows .entry)) (start-to-sleep i span) r (now (rows .exit)) ⌝ }
+{
+    let u = suspend(t, &mut *rows, i, span, 0, 0);
+    entering::enter_tail(u, 0, i)
+}
+
+pub fn wake(t: Table, rows: &mut [[u8; 16]; 8], i: u8, result: u8) -> Table
+    requires { ⌜ Given t (now rows) i ⌝ }
+    ensures { λ r. ⌜ Does t (now (rows .entry)) (wake i result) r (now (rows .exit)) ⌝ }
+{
+    let u = threads::with_wait(t, i, 0, result, 0, 0);
+    become_ready(u, &mut *rows, i)
+}
