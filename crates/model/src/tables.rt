@@ -1,6 +1,9 @@
 // The table (01, The table). Every field is a raw number: any bytes make a table, and whether it is a sound one is a test of
 // its own. The ids of the ready lists stand beside the table, as `[[u8; 16]; 8]`; it holds only how many there are of each.
 
+// How the choice of no thread is written.
+pub const NOBODY: u8 = 255;
+
 pub struct Thread {
     pub created: u8,
     pub base: u8,

@@ -116,14 +116,6 @@ count-all-place x (l ∷ ls) h =
       | no k ↦ let r = count-all-place x ls (omega arith) in (suc (r .0), r .1)
     ]
 
--- in two of them
-pub count-all-two : (x : ℕ) (ls : List (List ℕ)) (p q : ℕ) → (p ≡ q → ⊥) → count x (getD ls p []) + count x (getD ls q []) ≤ count-all x ls
-count-all-two x [] p q n = omega arith
-count-all-two x (l ∷ ls) zero zero n = absurd (n refl)
-count-all-two x (l ∷ ls) zero (suc q) n = let e = count-all-at x ls q in omega arith
-count-all-two x (l ∷ ls) (suc p) zero n = let e = count-all-at x ls p in omega arith
-count-all-two x (l ∷ ls) (suc p) (suc q) n = let e = count-all-two x ls p q (λ e. n (ap suc e)) in omega arith
-
 pub count-all-append : (x : ℕ) (a b : List (List ℕ)) → count-all x (a ++ b) ≡ count-all x a + count-all x b
 count-all-append x [] b = omega arith
 count-all-append x (l ∷ a) b = let e = count-all-append x a b in omega arith

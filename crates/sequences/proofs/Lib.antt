@@ -7,3 +7,4 @@ pub mod Padding
 pub mod Highest
 pub mod Bounds
 pub mod Slices
+pub mod Order

@@ -1,5 +1,5 @@
--- Tests over all of something: what one that passed says of each, and how one passes. Loops that leave at the first failure go by
--- `every-below`: what is done so far has passed.
+-- Tests over all of something: what one that passed says of each, and how one passes. A loop that goes through all of them has, after n
+-- turns, `every-below n`.
 use mathlib.Core.Path.{_≡_, refl, sym, _∙_, ap}
 use mathlib.Core.Bool.{Bool, true, false, _&&_, _||_, and-true, and-assoc}
 use mathlib.Core.List.{List, [], _∷_, map}
@@ -50,9 +50,6 @@ module _ (f : ℕ → Bool) where
         | yes s ↦ rw s (right (every-below n f) (f n) e)
         | no s ↦ every-below-at n k (omega arith) (left (every-below n f) (f n) e)
       ]
-
-  pub every-below-fails : (n k : ℕ) → k < n → f k ≡ false → every-below n f ≡ false
-  every-below-fails n k h e = untrue (every-below n f) (λ t. sym e ∙ every-below-at n k h t)
 
   pub every-below-from : (n : ℕ) → ((k : ℕ) → k < n → f k ≡ true) → every-below n f ≡ true
   unfolding every-below

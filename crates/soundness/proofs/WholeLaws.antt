@@ -4,9 +4,8 @@ use mathlib.Core.Bool.{Bool, true, false, _&&_}
 use mathlib.Core.List.{List, [], _∷_}
 use Prim.Native.Nat.{ℕ, _≤_}
 use borrow.Author.Tests.{le-leb}
-use lib.Dec.{leb}
 use lib.ListN.{getD}
-use Rattle.sequences.specs.Lists.{every, all-true}
+use Rattle.sequences.specs.Lists.{every}
 use Rattle.sequences.proofs.Tests.{both, left, right, same-truth, untrue, all-true-at}
 use Rattle.model.specs.declared.tables.Table.{Table}
 use Rattle.model.specs.State.{State}

@@ -1,10 +1,9 @@
 -- What the soundness test asks of one record, beside what lists ask: each test has every clause of soundness that speaks of the record.
 use mathlib.Core.Bool.{Bool, not, _&&_, _||_}
-use mathlib.Core.List.{List, [], _∷_}
+use mathlib.Core.List.{[], _∷_}
 use Prim.Native.Nat.{ℕ}
 use lib.Dec.{eqb, leb, ltb}
-use lib.ListN.{getD}
-use Rattle.sequences.specs.Lists.{all-true, all-zero, among}
+use Rattle.sequences.specs.Lists.{all-true, all-zero}
 use Rattle.model.specs.declared.tables.Thread.{Thread}
 use Rattle.model.specs.declared.tables.Semaphore.{Semaphore}
 use Rattle.model.specs.declared.tables.Mutex.{Mutex}

@@ -4,6 +4,7 @@ ghost use Rattle.sequences.specs.Lists.{among-any, take-each};
 ghost use Rattle.rows.specs.Row.{Rows};
 ghost use Rattle.model.specs.Layout.{view};
 ghost use Rattle.model.specs.Sound.{choice-fits};
+use model::tables::NOBODY;
 use model::tables::Table;
 
 pub fn on_ready_list(lengths: [u8; 8], rows: [[u8; 16]; 8], i: u8) -> bool
@@ -32,6 +33,6 @@ pub fn choice_fits(t: Table, rows: [[u8; 16]; 8]) -> bool
         chosen == best
     } else {
         let ready = on_ready_list(lengths, rows, chosen);
-        (chosen == 255) | ready
+        (chosen == NOBODY) | ready
     }
 }

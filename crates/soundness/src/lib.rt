@@ -5,7 +5,14 @@ ghost use mathlib.Core.Bool.{true, _&&_};
 ghost use Rattle.model.specs.Layout.{view, sound-table};
 ghost use Rattle.soundness.specs.Shape.{Shape};
 ghost use Rattle.soundness.specs.Whole.{lists-fit, members-fit, threads-fit, records-fit};
+use model::lists::FLAGS_LIST;
+use model::lists::SEMAPHORE_LIST;
+use model::lists::SLEEP_LIST;
+use model::lists::STOPPED_LIST;
 use model::tables::Table;
+use walks::OF_OBJECT;
+use walks::OF_SLEEP;
+use walks::OF_STOPPED;
 use walks::Walk;
 
 pub mod choice;
@@ -43,9 +50,16 @@ fn threads_fit(t: Table, rows: [[u8; 16]; 8]) -> bool
         counts: none,
     };
     let flagged = walks::walk_flags(start, waits, all, flags);
-    let waiting = walks::walk_waits(flagged, waits, 2, 14, all, 3);
-    let resting = walks::walk_waits(waiting, waits, 0, 1, all, 1);
-    let parked = walks::walk_waits(resting, waits, 1, 2, all, 2);
+    let waiting = walks::walk_waits(flagged, waits, SEMAPHORE_LIST, FLAGS_LIST, all, OF_OBJECT);
+    let resting = walks::walk_waits(waiting, waits, SLEEP_LIST, STOPPED_LIST, all, OF_SLEEP);
+    let parked = walks::walk_waits(
+        resting,
+        waits,
+        STOPPED_LIST,
+        SEMAPHORE_LIST,
+        all,
+        OF_STOPPED,
+    );
     let last = walks::walk_ready(parked, rows, lengths, all);
     let on_lists = last.counts;
     let at_rest = resting.counts;

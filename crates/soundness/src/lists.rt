@@ -4,6 +4,7 @@ ghost use mathlib.Core.List.{[]};
 ghost use lib.ListN.{getD};
 ghost use Rattle.sequences.specs.Lists.{every-below};
 ghost use Rattle.soundness.specs.Lists.{list-fits, wait-list-fits, list-at};
+use model::lists::LIST_COUNT;
 use model::tables::IdList;
 
 // A place before the end holds a thread's id, and one past it 0.
@@ -48,7 +49,7 @@ pub fn wait_lists_fit(waits: [IdList; 18]) -> bool
 {
     let mut fits = true;
     let mut j: usize = 0;
-    while j < 18 {
+    while j < LIST_COUNT {
         let l = waits[j];
         let one = wait_list_fits(l);
         fits = fits & one;

@@ -8,6 +8,9 @@ ghost use Rattle.model.specs.State.{absent-semaphore, absent-mutex, absent-flag
 ghost use Rattle.model.specs.Layout.{ids-of};
 ghost use Rattle.soundness.specs.Lists.{wait-list-fits, list-at, thread-at};
 ghost use Rattle.soundness.specs.Records.{semaphore-fits, mutex-fits, flags-fit};
+use model::lists::FLAGS_LIST;
+use model::lists::MUTEX_LIST;
+use model::lists::SEMAPHORE_LIST;
 use model::tables::Flags;
 use model::tables::IdList;
 use model::tables::Mutex;
@@ -31,7 +34,7 @@ pub fn semaphores_fit(semaphores: [Semaphore; 8], waits: [IdList; 18]) -> bool
     let mut o: usize = 0;
     while o < 8 {
         let x = semaphores[o];
-        let l = waits[2 + o];
+        let l = waits[SEMAPHORE_LIST + o];
         let one = semaphore_fits(x, l.length);
         fits = fits & one;
         o += 1;
@@ -60,7 +63,7 @@ pub fn mutexes_fit(mutexes: [Mutex; 4], threads: [Thread; 16], waits: [IdList; 1
     let mut o: usize = 0;
     while o < 4 {
         let x = mutexes[o];
-        let l = waits[10 + o];
+        let l = waits[MUTEX_LIST + o];
         let i = (x.owner % 16) as usize;
         let owner = threads[i];
         let own_waiter = table::lists::holds_id(l, x.owner);
@@ -84,7 +87,7 @@ pub fn all_flags_fit(flags: [Flags; 4], waits: [IdList; 18]) -> bool
     let mut o: usize = 0;
     while o < 4 {
         let x = flags[o];
-        let l = waits[14 + o];
+        let l = waits[FLAGS_LIST + o];
         let one = flags_fit(x, l.length);
         fits = fits & one;
         o += 1;

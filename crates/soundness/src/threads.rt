@@ -6,13 +6,14 @@ ghost use Rattle.model.specs.Sound.{thread-in-range, zero-thread};
 ghost use Rattle.table.specs.Owners.{owns-one-of};
 ghost use Rattle.soundness.specs.Lists.{thread-at};
 ghost use Rattle.soundness.specs.Records.{thread-fits};
+use model::modes::ALL_CLEAR;
 use model::tables::Mutex;
 use model::tables::Thread;
 
 fn thread_in_range(t: Thread) -> bool
     ensures { λ r. ⌜ r ≡ thread-in-range t ⌝ }
 {
-    (t.created <= 1) & (t.base < 8) & (t.current < 8) & (t.result <= 2) & (t.mode <= 3)
+    (t.created <= 1) & (t.base < 8) & (t.current < 8) & (t.result <= 2) & (t.mode <= ALL_CLEAR)
 }
 
 fn zero_thread(t: Thread) -> bool

@@ -9,9 +9,22 @@ ghost use Rattle.sequences.specs.Lists.{every-below, take-each};
 ghost use Rattle.model.specs.State.{absent-flags};
 ghost use Rattle.model.specs.Layout.{ids-of};
 ghost use Rattle.soundness.specs.Lists.{list-fits, wait-list-fits, member-fits, list-asks, of-ready, of-flags, list-at, Walked};
+use model::lists::FLAGS_LIST;
+use model::modes::ALL_CLEAR;
 use model::tables::Flags;
 use model::tables::IdList;
 use model::tables::Thread;
+
+// The kinds of lists, as Lists.antt has them: by them a list asks something of the threads on it.
+pub const OF_READY: u8 = 0;
+
+pub const OF_SLEEP: u8 = 1;
+
+pub const OF_STOPPED: u8 = 2;
+
+pub const OF_OBJECT: u8 = 3;
+
+pub const OF_FLAGS: u8 = 4;
 
 // What the walk over the lists has found so far: whether every list got what it asks, and on how many lists each thread stands.
 pub struct Walk {
@@ -19,24 +32,23 @@ pub struct Walk {
     pub counts: [u16; 16],
 }
 
-// By kind: 0 a ready list (mark: its priority), 1 the sleep list, 2 the stopped list, 3 the list of a semaphore or a mutex, 4 a flag
-// object's list (mark: its word).
+// A ready list's mark is its priority, a flag object's its word; others have none.
 pub fn member_fits(kind: u8, mark: u16, t: Thread) -> bool
     ensures { λ r. ⌜ r ≡ member-fits kind mark t ⌝ }
 {
-    if kind == 0 {
+    if kind == OF_READY {
         (t.current as u16) == mark
-    } else if kind == 1 {
+    } else if kind == OF_SLEEP {
         0 < t.limit
-    } else if kind <= 3 {
+    } else if kind <= OF_OBJECT {
         true
     } else {
         let met = table::conditions::holds(t.mode, t.mask, mark);
-        !met & ((0 < t.mask) & (t.mode <= 3))
+        !met & ((0 < t.mask) & (t.mode <= ALL_CLEAR))
     }
 }
 
-// From kind 3 on each has at most the current priority of the one before it.
+// On an object's list each has at most the current priority of the one before it.
 pub fn walk_ids(
     w: Walk,
     ids: [u8; 16],
@@ -58,7 +70,7 @@ pub fn walk_ids(
         let t = threads[i];
         let one = member_fits(kind, mark, t);
         let current = t.current;
-        fits = fits & one & ((kind < 3) | (k == 0) | (current <= before));
+        fits = fits & one & ((kind < OF_OBJECT) | (k == 0) | (current <= before));
         before = current;
         counts[i] = counts[i] + 1;
         k += 1;
@@ -89,7 +101,7 @@ pub fn walk_ready(w: Walk, rows: [[u8; 16]; 8], lengths: [u8; 8], threads: [Thre
     while p < 8 {
         let n = lengths[p] as usize;
         let row = rows[p];
-        let next = walk_ids(after, row, n, threads, 0, p as u16);
+        let next = walk_ids(after, row, n, threads, OF_READY, p as u16);
         after = next;
         p += 1;
     }
@@ -129,9 +141,9 @@ pub fn walk_flags(w: Walk, waits: [IdList; 18], threads: [Thread; 16], flags: [F
     let mut after = w;
     let mut o: usize = 0;
     while o < 4 {
-        let l = waits[14 + o];
+        let l = waits[FLAGS_LIST + o];
         let x = flags[o];
-        let next = walk_list(after, l, threads, 4, x.word);
+        let next = walk_list(after, l, threads, OF_FLAGS, x.word);
         after = next;
         o += 1;
     }

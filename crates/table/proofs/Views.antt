@@ -38,10 +38,6 @@ module _ (t : Table) (rows : layout.Rows) where
   unfolding view
   list-view j = List·getD-map ids-of (t .waits) j no-ids
 
-  pub thread-view : (i : ℕ) → thread i (view t rows) ≡ getD (t .threads) i absent-thread
-  unfolding view
-  thread-view i = refl
-
 -- a place by rank is within the list
 pub rank-at-most : (t : Table) (i j : ℕ) {k : ℕ} → Row 16 (list-at t j .ids) (list-at t j .length) → k ≡ rank j i (view t []) → k ≤ list-at t j .length
 unfolding rank

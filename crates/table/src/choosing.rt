@@ -7,9 +7,10 @@ ghost use Rattle.model.specs.Parts.{with-chosen, alter-thread, refilled};
 ghost use Rattle.model.specs.Words.{choose};
 ghost use Rattle.table.specs.Orderly.{Orderly, OrderlyTable, Meets, Does};
 use crate::threads;
+use model::tables::NOBODY;
 use model::tables::Table;
 
-// The head of the highest ready list that isn't empty, or 255.
+// The head of the highest ready list that isn't empty, or nobody.
 pub fn choice(lengths: [u8; 8], rows: [[u8; 16]; 8]) -> u8
     requires { ⌜ Rows 16 8 rows lengths ⌝ }
     ensures { λ r. ⌜ r ≡ head-or (last-nonempty (take-each lengths rows)) nobody ⌝ }
@@ -23,7 +24,7 @@ pub fn choice(lengths: [u8; 8], rows: [[u8; 16]; 8]) -> u8
         }
         above = p;
     }
-    255
+    NOBODY
 }
 
 pub fn with_chosen(t: Table, c: u8) -> Table

@@ -4,6 +4,7 @@ ghost use Rattle.model.specs.Layout.{fresh-table, fresh-rows};
 use model::tables::Flags;
 use model::tables::IdList;
 use model::tables::Mutex;
+use model::tables::NOBODY;
 use model::tables::Semaphore;
 use model::tables::Table;
 use model::tables::Thread;
@@ -62,7 +63,7 @@ pub fn fresh() -> Table
     Table {
         clock: 0,
         off: 0,
-        chosen: 255,
+        chosen: NOBODY,
         threads: threads,
         semaphores: semaphores,
         mutexes: mutexes,

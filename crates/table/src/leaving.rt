@@ -13,6 +13,7 @@ ghost use Rattle.table.specs.Orderly.{list-at, OrderlyTable, Given, Meet
 use crate::lists;
 use crate::standing;
 use crate::threads;
+use model::lists::LIST_COUNT;
 use model::tables::Table;
 
 // Off list j, which is no ready list.
@@ -54,7 +55,11 @@ pub fn leave_other(t: Table, i: u8) -> Table
     ensures { λ r. ⌜ Meets t (λ s. with-waits (map (without i) (s .waits)) s) r ⌝ }
 {
     let j = standing::list_of(t, i);
-    if j < 18 { leave_list(t, j, i) } else { t }
+    if j < LIST_COUNT {
+        leave_list(t, j, i)
+    } else {
+        t
+    }
 }
 
 pub fn leave(t: Table, rows: &mut [[u8; 16]; 8], i: u8) -> Table

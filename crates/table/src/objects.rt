@@ -2,6 +2,9 @@
 ghost use mathlib.Core.Path.{_≡_};
 ghost use Rattle.model.specs.Ranges.{action-in-range};
 ghost use Rattle.table.specs.Objects.{semaphore-there, flags-there, names-one-of};
+use model::actions::NOTHING;
+use model::actions::POST;
+use model::actions::SET_FLAGS;
 use model::tables::Flags;
 use model::tables::Semaphore;
 
@@ -32,9 +35,9 @@ pub fn flags_there(flags: [Flags; 4], o: u32) -> bool
 pub fn names_object(semaphores: [Semaphore; 8], flags: [Flags; 4], kind: u32, object: u32) -> bool
     ensures { λ r. ⌜ r ≡ names-one-of semaphores flags kind object ⌝ }
 {
-    if kind == 1 {
+    if kind == POST {
         semaphore_there(semaphores, object)
-    } else if kind == 2 {
+    } else if kind == SET_FLAGS {
         flags_there(flags, object)
     } else {
         true
@@ -44,11 +47,11 @@ pub fn names_object(semaphores: [Semaphore; 8], flags: [Flags; 4], kind: u32, ob
 pub fn action_in_range(kind: u32, object: u32, mask: u32) -> bool
     ensures { λ r. ⌜ r ≡ action-in-range kind object mask ⌝ }
 {
-    if kind == 0 {
+    if kind == NOTHING {
         (object == 0) & (mask == 0)
-    } else if kind == 1 {
+    } else if kind == POST {
         mask == 0
-    } else if kind == 2 {
+    } else if kind == SET_FLAGS {
         (0 < mask) & (mask <= 65535)
     } else {
         false

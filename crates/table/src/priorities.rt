@@ -11,6 +11,8 @@ use crate::entering;
 use crate::leaving;
 use crate::standing;
 use crate::threads;
+use model::lists::LIST_COUNT;
+use model::lists::SEMAPHORE_LIST;
 use model::tables::Table;
 
 fn take_ready(t: Table, rows: &mut [[u8; 16]; 8], i: u8, p: u8) -> Table
@@ -29,7 +31,7 @@ fn take_elsewhere(t: Table, rows: &mut [[u8; 16]; 8], i: u8, p: u8) -> Table
     ensures { λ r. ⌜ Does t (now (rows .entry)) (λ s. re-enter i (alter-thread i (with-current p) s)) r (now (rows .exit)) ⌝ }
 {
     let j = standing::list_of(t, i);
-    if (2 <= j) & (j < 18) {
+    if (SEMAPHORE_LIST <= j) & (j < LIST_COUNT) {
         let u = leaving::leave_list(t, j, i);
         let v = threads::with_current(u, i, p);
         entering::enter_by_priority(v, j, i)

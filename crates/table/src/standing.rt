@@ -10,6 +10,7 @@ ghost use Rattle.model.specs.Words.{is-ready};
 ghost use Rattle.table.specs.Orderly.{OrderlyTable, Given};
 use crate::lists;
 use crate::threads;
+use model::lists::LIST_COUNT;
 use model::tables::IdList;
 use model::tables::Table;
 
@@ -29,7 +30,7 @@ fn first_with(waits: [IdList; 18], i: u8) -> usize
     ensures { λ r. ⌜ r ≡ first-at (among i) (map ids-of waits) ⌝ }
 {
     let mut j: usize = 0;
-    while j < 18 {
+    while j < LIST_COUNT {
         let l = waits[j];
         if lists::holds_id(l, i) {
             return j;

@@ -5,6 +5,7 @@ ghost use Rattle.table.specs.Orderly.{Given, Does};
 use crate::entering;
 use crate::leaving;
 use crate::threads;
+use model::lists::SLEEP_LIST;
 use model::tables::Table;
 
 pub fn become_ready(t: Table, rows: &mut [[u8; 16]; 8], i: u8) -> Table
@@ -46,7 +47,7 @@ pub fn start_to_sleep(t: Table, rows: &mut [[u8; 16]; 8], i: u8, span: u32) -> T
     ensures { λ r. ⌜ Does t (now (rows .entry)) (start-to-sleep i span) r (now (rows .exit)) ⌝ }
 {
     let u = suspend(t, &mut *rows, i, span, 0, 0);
-    entering::enter_tail(u, 0, i)
+    entering::enter_tail(u, SLEEP_LIST, i)
 }
 
 pub fn wake(t: Table, rows: &mut [[u8; 16]; 8], i: u8, result: u8) -> Table

@@ -1,6 +1,6 @@
 -- Where the lists fit, the passes together are the model's test; where they don't, the table isn't sound.
 use lib.ListN.{length-map}
-use mathlib.Core.Path.{_≡_, sym, _∙_}
+use mathlib.Core.Path.{sym, _∙_}
 use native.Mathlib.Omega.{arith}
 use Rattle.table.proofs.Stored.{orderly-facts}
 use Rattle.soundness.specs.Shape.{Shape}

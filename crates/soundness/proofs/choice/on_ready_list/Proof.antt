@@ -1,12 +1,11 @@
 -- After p turns it is known whether the id stands on one of the first p lists.
 use mathlib.Core.Path.{_≡_, refl, sym, _∙_, ap}
-use mathlib.Core.Bool.{_||_}
-use mathlib.Core.List.{List, []}
-use Prim.Native.Nat.{ℕ, _≤_, _<_, _-_}
+use mathlib.Core.List.{[]}
+use Prim.Native.Nat.{_≤_, _<_, _-_}
 use native.Mathlib.Omega.{arith}
 use borrow.Author.Needs.{needs}
 use lib.Dec.{ltb}
-use lib.ListN.{length, getD, take}
+use lib.ListN.{getD, take}
 use lib.Seq.{take-all}
 use Rattle.sequences.specs.Lists.{among, among-any, take-each}
 use Rattle.sequences.proofs.Counts.{among-count, among-any-grown}
