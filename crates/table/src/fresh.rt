@@ -1,6 +1,8 @@
 // A fresh table and its rows (01, The table): nothing created, every number 0, every list empty, scheduling on, nobody chosen.
 ghost use mathlib.Core.Path.{_≡_};
-ghost use Rattle.model.specs.Layout.{fresh-table, fresh-rows};
+ghost use mathlib.Core.List.{[]};
+ghost use Rattle.model.specs.State.{absent-thread, absent-semaphore, absent-mutex, absent-flags, unused-timer};
+ghost use Rattle.model.specs.Layout.{laid-list, fresh-table, fresh-rows};
 use model::tables::Flags;
 use model::tables::IdList;
 use model::tables::Mutex;
@@ -10,10 +12,11 @@ use model::tables::Table;
 use model::tables::Thread;
 use model::tables::Timer;
 
-pub fn fresh() -> Table
-    ensures { λ r. ⌜ r ≡ fresh-table ⌝ }
+// A thread that isn't there.
+pub fn absent_thread() -> Thread
+    ensures { λ r. ⌜ r ≡ absent-thread ⌝ }
 {
-    let thread = Thread {
+    Thread {
         created: 0,
         base: 0,
         current: 0,
@@ -24,8 +27,14 @@ pub fn fresh() -> Table
         mask: 0,
         mode: 0,
         delivered: 0,
-    };
-    let timer = Timer {
+    }
+}
+
+// A timer that was never started.
+fn unused_timer() -> Timer
+    ensures { λ r. ⌜ r ≡ unused-timer ⌝ }
+{
+    Timer {
         period: 0,
         left: 0,
         repeat: 0,
@@ -33,26 +42,57 @@ pub fn fresh() -> Table
         object: 0,
         mask: 0,
         count: 0,
-    };
-    let semaphore = Semaphore {
+    }
+}
+
+fn absent_semaphore() -> Semaphore
+    ensures { λ r. ⌜ r ≡ absent-semaphore ⌝ }
+{
+    Semaphore {
         created: 0,
         count: 0,
         maximum: 0,
-    };
-    let mutex = Mutex {
+    }
+}
+
+fn absent_mutex() -> Mutex
+    ensures { λ r. ⌜ r ≡ absent-mutex ⌝ }
+{
+    Mutex {
         created: 0,
         owner: 0,
         depth: 0,
-    };
-    let object = Flags {
+    }
+}
+
+fn absent_flags() -> Flags
+    ensures { λ r. ⌜ r ≡ absent-flags ⌝ }
+{
+    Flags {
         created: 0,
         word: 0,
-    };
+    }
+}
+
+fn empty_list() -> IdList
+    ensures { λ r. ⌜ r ≡ laid-list [] ⌝ }
+{
     let ids = [0u8; 16];
-    let list = IdList {
+    IdList {
         length: 0,
         ids: ids,
-    };
+    }
+}
+
+pub fn fresh() -> Table
+    ensures { λ r. ⌜ r ≡ fresh-table ⌝ }
+{
+    let thread = absent_thread();
+    let semaphore = absent_semaphore();
+    let mutex = absent_mutex();
+    let object = absent_flags();
+    let timer = unused_timer();
+    let list = empty_list();
     let threads = [thread; 16];
     let semaphores = [semaphore; 8];
     let mutexes = [mutex; 4];

@@ -1,5 +1,5 @@
 -- The literal is the model's fresh state laid out, by computation.
-use mathlib.Core.Path.{refl}
+use borrow.Author.Needs.{needs}
 use Rattle.model.specs.State.{fresh}
 use Rattle.model.specs.Layout.{fresh-table, lay-table}
 use Rattle.table.proofs.fresh.fresh.Statement.{statement}
@@ -7,7 +7,15 @@ use Rattle.table.proofs.fresh.fresh.Tie as tie
 
 returns : tie.Need-returns
 unfolding fresh-table lay-table fresh
-returns c = refl
+returns c =
+    rw (
+      c .before .before .before .before .before .absent-thread .ensures,
+      c .before .before .before .before .absent-semaphore .ensures,
+      c .before .before .before .absent-mutex .ensures,
+      c .before .before .absent-flags .ensures,
+      c .before .unused-timer .ensures,
+      c .empty-list .ensures,
+    )
 
 pub fresh-spec : {M : Type 1} → statement M
-fresh-spec = tie.close (tie.spec returns)
+fresh-spec = tie.close (tie.spec (λ c κs. search needs) (λ c κs. search needs) (λ c κs. search needs) (λ c κs. search needs) (λ c κs. search needs) (λ c κs. search needs) returns)
