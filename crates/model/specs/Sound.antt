@@ -43,22 +43,23 @@ waited-for j s = ltb 0 (length (list j s))
 -- ---- every field in its range
 
 -- there are as many of each as the table says
-unfoldable pub shaped : State → Bool
-shaped s =
-    all-true
-    (eqb (length (s .threads)) thread-count
+abbrev pub sizes : State → List Bool
+sizes s =
+    eqb (length (s .threads)) thread-count
     ∷ eqb (length (s .semaphores)) semaphore-count
     ∷ eqb (length (s .mutexes)) mutex-count
     ∷ eqb (length (s .flags)) flags-count
     ∷ eqb (length (s .timers)) timer-count
     ∷ eqb (length (s .ready)) priority-count
     ∷ eqb (length (s .waits)) list-count
-    ∷ [])
+    ∷ []
 
-unfoldable pub thread-in-range : Thread → Bool
-thread-in-range t =
-    all-true
-    (is-bit (t .created)
+unfoldable pub shaped : State → Bool
+shaped s = all-true (sizes s)
+
+abbrev pub thread-ranges : Thread → List Bool
+thread-ranges t =
+    is-bit (t .created)
     ∷ is-priority (t .base)
     ∷ is-priority (t .current)
     ∷ fits-16 (t .quantum)
@@ -68,7 +69,10 @@ thread-in-range t =
     ∷ fits-16 (t .mask)
     ∷ leb (t .mode) 3
     ∷ fits-16 (t .delivered)
-    ∷ [])
+    ∷ []
+
+unfoldable pub thread-in-range : Thread → Bool
+thread-in-range t = all-true (thread-ranges t)
 
 -- a maximum of 0 is that of a semaphore not created
 unfoldable pub semaphore-in-range : Semaphore → Bool
@@ -87,10 +91,9 @@ timer-in-range t = fits-32 (t .period) && fits-32 (t .left) && is-bit (t .repeat
 unfoldable pub ids-in-range : List ℕ → Bool
 ids-in-range l = every (λ i. ltb i thread-count) l
 
-unfoldable pub fields-in-range : State → Bool
-fields-in-range s =
-    all-true
-    (fits-32 (s .clock)
+abbrev pub field-ranges : State → List Bool
+field-ranges s =
+    fits-32 (s .clock)
     ∷ is-bit (s .off)
     ∷ every thread-in-range (s .threads)
     ∷ every semaphore-in-range (s .semaphores)
@@ -99,7 +102,10 @@ fields-in-range s =
     ∷ every timer-in-range (s .timers)
     ∷ every ids-in-range (s .ready)
     ∷ every ids-in-range (s .waits)
-    ∷ [])
+    ∷ []
+
+unfoldable pub fields-in-range : State → Bool
+fields-in-range s = all-true (field-ranges s)
 
 -- ---- lists and priorities
 

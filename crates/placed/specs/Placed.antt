@@ -1,5 +1,5 @@
 -- The part of soundness that holds between the steps of a call too, and that every word needs: how many there are of each, and where
--- threads stand. Soundness gives it, and each word keeps it.
+-- threads stand. Soundness gives it; that leaving and a changed record keep it is shown beside it.
 use mathlib.Core.Path.{_≡_}
 use Prim.Native.Nat.{ℕ, _+_, _<_, _≤_}
 use lib.ListN.{length}

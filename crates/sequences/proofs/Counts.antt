@@ -7,12 +7,13 @@ use native.Mathlib.Decide.{ℕ-discrete, decLt}
 use native.Mathlib.Nat.{zero-add}
 use native.Mathlib.Numerals.{add-one}
 use native.Mathlib.Omega.{arith}
-use borrow.Author.Tests.{eq-eqb, ne-eqb, lt-ltb, ltb-true, ltb-false}
+use borrow.Author.Tests.{eq-eqb, ne-eqb, eqb-true, lt-ltb, ltb-true, ltb-false}
 use lib.Dec.{eqb, ltb}
 use lib.ListN.{length, getD, take}
 use lib.Seq.{take-suc}
-use Rattle.sequences.specs.Lists.{alter, insert-at, count, count-all, among, among-any, without, only, first-at}
+use Rattle.sequences.specs.Lists.{alter, insert-at, count, count-all, among, among-any, without, only, first-at, every}
 use Rattle.sequences.proofs.Searches.{first-passes}
+use Rattle.sequences.proofs.Tests.{left, right, every-at}
 
 -- ---- one list
 
@@ -179,3 +180,27 @@ few (suc n) l o k =
     ])
     in
     omega (arith, length-without n l, o n)
+
+-- ---- what all of a list pass
+
+pub every-counted : (f : ℕ → Bool) (l : List ℕ) (x : ℕ) → every f l ≡ true → 0 < count x l → f x ≡ true
+every-counted f l x e h =
+    let k = first-at (λ y. eqb y x) l in
+    let at = count-place x l h in
+    rw (eqb-true (getD l k 0) x (first-passes (λ y. eqb y x) 0 l at)) at (every-at f 0 l k at e)
+
+-- where all are below n, nothing else is there
+pub count-beyond : (n : ℕ) (l : List ℕ) (x : ℕ) → every (λ y. ltb y n) l ≡ true → n ≤ x → count x l ≡ 0
+count-beyond n l x e h =
+    elim (decLt 0 (count x l)) [
+      | yes k ↦ absurd (omega (arith, ltb-true x n (every-counted (λ y. ltb y n) l x e k)))
+      | no k ↦ omega arith
+    ]
+
+pub count-all-beyond : (n : ℕ) (ls : List (List ℕ)) (x : ℕ) → every (λ l. every (λ y. ltb y n) l) ls ≡ true → n ≤ x → count-all x ls ≡ 0
+count-all-beyond n [] x e h = refl
+count-all-beyond n (l ∷ ls) x e h =
+    let rest = every (λ l. every (λ y. ltb y n) l) ls in
+    let here = count-beyond n l x (left (every (λ y. ltb y n) l) rest e) h in
+    let there = count-all-beyond n ls x (right (every (λ y. ltb y n) l) rest e) h in
+    omega arith

@@ -1,7 +1,6 @@
 -- The passes together are the model's test: the same clauses, sorted otherwise. What the passes don't ask holds of every declared table.
 use mathlib.Core.Path.{_≡_, refl, sym, _∙_}
 use mathlib.Core.Bool.{Bool, true, false, _&&_}
-use mathlib.Core.List.{List, [], _∷_}
 use Prim.Native.Nat.{ℕ, _≤_}
 use borrow.Author.Tests.{le-leb}
 use lib.ListN.{getD}
@@ -9,8 +8,8 @@ use Rattle.sequences.specs.Lists.{every}
 use Rattle.sequences.proofs.Tests.{both, left, right, same-truth, untrue, all-true-at}
 use Rattle.model.specs.declared.tables.Table.{Table}
 use Rattle.model.specs.State.{State}
-use Rattle.model.specs.Ranges.{is-bit, fits-32}
-use Rattle.model.specs.Sound.{thread-in-range, semaphore-in-range, mutex-in-range, flags-in-range, timer-in-range, ids-in-range, fields-in-range, shaped}
+use Rattle.model.specs.Ranges.{fits-32}
+use Rattle.model.specs.Sound.{ids-in-range, field-ranges, fields-in-range, shaped}
 use Rattle.model.specs.Sound.{clauses, sound-but-choice, sound, choice-fits}
 use Rattle.model.specs.Layout.{Rows, view, orderly, sound-table}
 use Rattle.soundness.specs.Whole.{ready-fits, waits-fit, lists-fit, members-fit, threads-fit, records-fit, member-clauses, thread-clauses, record-clauses}
@@ -18,20 +17,6 @@ use Rattle.soundness.specs.Shape.{Shape}
 use Rattle.soundness.proofs.ListLaws.{Orderly-lists, shape-shaped, lists-orderly, lists-pass}
 
 -- ---- soundness but for the choice: the shape and the clock, the ids in lists, and what three passes ask
-
--- the tests of `fields-in-range`, in its order
-abbrev field-tests : State → List Bool
-field-tests s =
-    fits-32 (s .clock)
-    ∷ is-bit (s .off)
-    ∷ every thread-in-range (s .threads)
-    ∷ every semaphore-in-range (s .semaphores)
-    ∷ every mutex-in-range (s .mutexes)
-    ∷ every flags-in-range (s .flags)
-    ∷ every timer-in-range (s .timers)
-    ∷ every ids-in-range (s .ready)
-    ∷ every ids-in-range (s .waits)
-    ∷ []
 
 abbrev asked : State → Bool
 asked s = members-fit s && threads-fit s && records-fit s
@@ -51,7 +36,7 @@ module _ (s : State) (shape : shaped s ≡ true) (clock : fits-32 (s .clock) ≡
   unfolding sound-but-choice clauses fields-in-range members-fit threads-fit records-fit
   sound-asked e =
       let c : (k : ℕ) → getD (clauses s) k true ≡ true = λ k. all-true-at (clauses s) k e in
-      let f : (k : ℕ) → getD (field-tests s) k true ≡ true = λ k. all-true-at (field-tests s) k (c 1) in
+      let f : (k : ℕ) → getD (field-ranges s) k true ≡ true = λ k. all-true-at (field-ranges s) k (c 1) in
       both
       (both (both (c 4) (both (c 5) (both (c 18) (both (c 13) (both (c 14) refl)))))
       (both (f 2) (both (c 2) (both (c 3) (both (c 6) (both (c 19) (both (c 20) (both (c 21) (both (c 22) refl)))))))))
@@ -65,7 +50,7 @@ module _ (t : Table) (rows : Rows) (w : Shape t rows) where
   sound-fit e =
       let s = view t rows in
       let whole = left (sound-but-choice s) (choice-fits s) (right (orderly t rows) (sound s) e) in
-      let field : (k : ℕ) → getD (field-tests s) k true ≡ true = λ k. all-true-at (field-tests s) k (all-true-at (clauses s) 1 whole) in
+      let field : (k : ℕ) → getD (field-ranges s) k true ≡ true = λ k. all-true-at (field-ranges s) k (all-true-at (clauses s) 1 whole) in
       let p = lists-pass t rows w (record { layout = left (orderly t rows) (sound s) e; ready = field 7; waits = field 8 }) in
       both (p .0) (p .1)
 

@@ -7,7 +7,7 @@ use native.Mathlib.Omega.{arith}
 use borrow.Author.Tests.{eqb-true, eq-eqb, leb-true, le-leb}
 use lib.Dec.{eqb, leb}
 use lib.ListN.{length, take, drop, getD, length-drop, length-map}
-use Rattle.sequences.specs.Lists.{every, every-below, all-zero, padded, take-each}
+use Rattle.sequences.specs.Lists.{every, every-below, all-zero, padded}
 use Rattle.sequences.proofs.Tests.{both, left, right, all-true-at, every-at, every-from, every-below-at, every-below-from}
 use Rattle.sequences.proofs.Padding.{zeros-all-zero, all-zero-zeros, take-padded, padded-take, take-each-padded, lengths-taken, rows-padded}
 use Rattle.rows.specs.Row.{Row, Rows, blanks}
@@ -15,10 +15,11 @@ use Rattle.rows.proofs.Rows.{length-held, lists-many}
 use Rattle.model.specs.declared.tables.IdList.{IdList}
 use Rattle.model.specs.declared.tables.Table.{Table}
 use Rattle.model.specs.State.{State}
-use Rattle.model.specs.Sound.{shaped}
+use Rattle.model.specs.Sound.{sizes, shaped, sound-but-choice, choice-fits, sound}
 use Rattle.model.specs.Layout as layout
-use Rattle.model.specs.Layout.{view, ids-of, no-ids, laid-list, lay-table, lay-rows, row-orderly, orderly}
-use Rattle.table.specs.Orderly.{Orderly, list-at}
+use Rattle.model.specs.Layout.{view, ids-of, no-ids, laid-list, lay-table, lay-rows, row-orderly, orderly, sound-table}
+use Rattle.placed.proofs.Sounds.{sound-placed}
+use Rattle.table.specs.Orderly.{Orderly, Given, list-at}
 
 -- ---- one row
 
@@ -52,26 +53,16 @@ module _ (t : Table) (rows : layout.Rows) where
   pub orderly-facts : orderly t rows ≡ true → Orderly t rows
   unfolding orderly shaped view
   orderly-facts e =
-      let shape = all-true-at tests 0 e in
-      let sizes : List Bool =
-      eqb (length (t .threads)) 16
-      ∷ eqb (length (t .semaphores)) 8
-      ∷ eqb (length (t .mutexes)) 4
-      ∷ eqb (length (t .flags)) 4
-      ∷ eqb (length (t .timers)) 8
-      ∷ eqb (length (take-each (t .lengths) rows)) 8
-      ∷ eqb (length (map ids-of (t .waits))) 18
-      ∷ []
-      in
-      let waits : length (t .waits) ≡ 18 = sym (length-map (t .waits) ids-of) ∙ eqb-true (length (map ids-of (t .waits))) 18 (all-true-at sizes 6 shape) in
+      let size : (k : ℕ) → getD (sizes (view t rows)) k true ≡ true = λ k. all-true-at (sizes (view t rows)) k (all-true-at tests 0 e) in
+      let waits : length (t .waits) ≡ 18 = sym (length-map (t .waits) ids-of) ∙ eqb-true (length (map ids-of (t .waits))) 18 (size 6) in
       record {
         table =
             record {
-              threads = eqb-true (length (t .threads)) 16 (all-true-at sizes 0 shape);
-              semaphores = eqb-true (length (t .semaphores)) 8 (all-true-at sizes 1 shape);
-              mutexes = eqb-true (length (t .mutexes)) 4 (all-true-at sizes 2 shape);
-              flags = eqb-true (length (t .flags)) 4 (all-true-at sizes 3 shape);
-              timers = eqb-true (length (t .timers)) 8 (all-true-at sizes 4 shape);
+              threads = eqb-true (length (t .threads)) 16 (size 0);
+              semaphores = eqb-true (length (t .semaphores)) 8 (size 1);
+              mutexes = eqb-true (length (t .mutexes)) 4 (size 2);
+              flags = eqb-true (length (t .flags)) 4 (size 3);
+              timers = eqb-true (length (t .timers)) 8 (size 4);
               waits = waits;
               lists = λ j h.
                   row-facts (list-at t j .length) (list-at t j .ids) (every-at list-fits no-ids (t .waits) j (omega arith) (all-true-at tests 4 e));
@@ -140,3 +131,15 @@ module _ {t : Table} {rows : layout.Rows} (w : Orderly t rows) where
   pub laid-rows : lay-rows (view t rows) ≡ rows
   unfolding view lay-rows
   laid-rows = rows-padded 16 (t .lengths) rows same-many (λ p h. padded-row (row-at p h))
+
+-- ---- what a word about a thread asks, every sound table has
+
+pub sound-given : {t : Table} {rows : layout.Rows} → sound-table t rows ≡ true → {i : ℕ} → i < 16 → Given t rows i
+unfolding sound-table sound
+sound-given {t} {rows} e h =
+    let s = view t rows in
+    record {
+      order = orderly-facts t rows (left (orderly t rows) (sound s) e);
+      placed = sound-placed s (left (sound-but-choice s) (choice-fits s) (right (orderly t rows) (sound s) e));
+      thread = h;
+    }
