@@ -1,14 +1,14 @@
 -- What follows from where threads stand: who is off all lists leaves room on each, and who leaves is off them. Leaving, and a change of
 -- anything but current priorities, keep it.
-use mathlib.Core.Path.{_≡_, refl, _∙_, ap}
+use mathlib.Core.Path.{_≡_, _∙_, ap}
 use mathlib.Core.List.{List, [], _∷_, map}
 use Prim.Native.Nat.{ℕ, _<_, _≤_}
 use native.Mathlib.Decide.{ℕ-discrete, decLt}
 use native.Mathlib.Omega.{arith}
 use borrow.Author.Tests.{eq-eqb, ne-eqb}
 use lib.ListN.{length, getD, length-map, List·getD-map}
-use Rattle.sequences.specs.Lists.{count, count-all, without}
-use Rattle.sequences.proofs.Counts.{count-all-at, count-gone, count-kept, few}
+use Rattle.sequences.specs.Lists.{count, without}
+use Rattle.sequences.proofs.Counts.{count-all-at, count-without, count-all-gone, count-all-kept, few}
 use Rattle.sequences.proofs.Places.{length-alter, alter-keeps, alter-other, alter-at, alter-out}
 use Rattle.model.specs.declared.tables.Thread.{Thread}
 use Rattle.model.specs.State.{State, absent-thread}
@@ -17,14 +17,6 @@ use Rattle.model.specs.Words.{leave}
 use Rattle.placed.specs.Placed.{Placed, standing}
 
 -- ---- leaving all lists
-
-count-all-gone : (i : ℕ) (ls : List (List ℕ)) → count-all i (map (without i) ls) ≡ 0
-count-all-gone i [] = refl
-count-all-gone i (l ∷ ls) = let a = count-gone i l in let b = count-all-gone i ls in omega arith
-
-count-all-kept : (i x : ℕ) (ls : List (List ℕ)) → (i ≡ x → ⊥) → count-all x (map (without i) ls) ≡ count-all x ls
-count-all-kept i x [] n = refl
-count-all-kept i x (l ∷ ls) n = let a = count-kept i x l n in let b = count-all-kept i x ls n in omega arith
 
 module _ (i : ℕ) (s : State) where
   pub leave-gone : standing i (leave i s) ≡ 0
@@ -41,14 +33,6 @@ module _ (i : ℕ) (s : State) where
         | yes e ↦ rw (← e) (omega (arith, leave-gone))
         | no n ↦ omega (arith, leave-kept x n)
       ]
-
--- what is left of a list was in it
-count-without : (i x : ℕ) (l : List ℕ) → count x (without i l) ≤ count x l
-count-without i x l =
-    elim (ℕ-discrete i x) [
-      | yes e ↦ rw (← e) (omega (arith, count-gone i l))
-      | no n ↦ omega (arith, count-kept i x l n)
-    ]
 
 pub leave-placed : (i : ℕ) (s : State) → Placed s → Placed (leave i s)
 unfolding leave

@@ -1,13 +1,13 @@
 -- How often an id stands in lists. Where it stands is then a matter of sums, and that a list has room one of counting.
 use mathlib.Core.Path.{_≡_, refl, sym, _∙_, ap}
 use mathlib.Core.Bool.{Bool, true, false, cond, not, _||_, or-false, or-assoc}
-use mathlib.Core.List.{List, [], _∷_, _++_}
-use Prim.Native.Nat.{ℕ, zero, suc, _+_, _<_, _≤_}
+use mathlib.Core.List.{List, [], _∷_, _++_, map}
+use Prim.Native.Nat.{ℕ, zero, suc, _+_, _*_, _<_, _≤_}
 use native.Mathlib.Decide.{ℕ-discrete, decLt}
 use native.Mathlib.Nat.{zero-add}
 use native.Mathlib.Numerals.{add-one}
 use native.Mathlib.Omega.{arith}
-use borrow.Author.Tests.{eq-eqb, ne-eqb, eqb-true, lt-ltb, ltb-true, ltb-false}
+use borrow.Author.Tests.{eq-eqb, ne-eqb, eqb-true, lt-ltb, le-ltb, ltb-true, ltb-false}
 use lib.Dec.{eqb, ltb}
 use lib.ListN.{length, getD, take}
 use lib.Seq.{take-suc}
@@ -20,6 +20,12 @@ use Rattle.sequences.proofs.Tests.{left, right, every-at}
 pub count-append : (x : ℕ) (a b : List ℕ) → count x (a ++ b) ≡ count x a + count x b
 count-append x [] b = omega arith
 count-append x (y ∷ a) b = let e = count-append x a b in omega arith
+
+pub count-one : (x : ℕ) → count x (x ∷ []) ≡ 1
+count-one x = rw (eq-eqb x x refl)
+
+pub count-other : (x y : ℕ) → (x ≡ y → ⊥) → count x (y ∷ []) ≡ 0
+count-other x y n = rw (ne-eqb y x (λ e. n (sym e)))
 
 pub count-insert : (x k y : ℕ) (l : List ℕ) → count x (insert-at k y l) ≡ count x (y ∷ []) + count x l
 count-insert x zero y l = omega arith
@@ -49,6 +55,20 @@ count-place x (y ∷ l) h =
     elim (ℕ-discrete y x) [
       | yes s ↦ rw (eq-eqb y x s) (omega arith)
       | no s ↦ rw (ne-eqb y x s) (omega (arith, r (simp (ne-eqb y x s, zero-add) at h)))
+    ]
+
+-- a search tells whether it counts
+pub first-counts : (x : ℕ) (l : List ℕ) → ltb (first-at (λ y. eqb y x) l) (length l) ≡ ltb 0 (count x l)
+first-counts x l =
+    elim (decLt 0 (count x l)) [
+      | yes h ↦ lt-ltb (first-at (λ y. eqb y x) l) (length l) (count-place x l h) ∙ sym (lt-ltb 0 (count x l) h)
+      | no h ↦
+          elim (decLt (first-at (λ y. eqb y x) l) (length l)) [
+            | yes k ↦
+                let e = eqb-true (getD l (first-at (λ y. eqb y x) l) 0) x (first-passes (λ y. eqb y x) 0 l k) in
+                absurd (h (rw e at (count-there l (first-at (λ y. eqb y x) l) k)))
+            | no k ↦ le-ltb (first-at (λ y. eqb y x) l) (length l) (omega arith) ∙ sym (le-ltb 0 (count x l) (omega arith))
+          ]
     ]
 
 pub among-count : (x : ℕ) (l : List ℕ) → among x l ≡ ltb 0 (count x l)
@@ -89,6 +109,14 @@ count-kept x z (y ∷ ys) n =
       | no s ↦ rw (ne-eqb y x s) (ap (λ (k : ℕ). cond (eqb y z) 1 0 + k) r)
     ]
 
+-- what is left was there
+pub count-without : (x z : ℕ) (l : List ℕ) → count z (without x l) ≤ count z l
+count-without x z l =
+    elim (ℕ-discrete x z) [
+      | yes e ↦ rw (← e) (omega (arith, count-gone x l))
+      | no n ↦ omega (arith, count-kept x z l n)
+    ]
+
 -- ---- split by a test: those that pass and those that don't are all
 
 pub count-split : (f : ℕ → Bool) (x : ℕ) (l : List ℕ) → count x (only f l) + count x (only (λ y. not (f y)) l) ≡ count x l
@@ -120,6 +148,25 @@ count-all-place x (l ∷ ls) h =
 pub count-all-append : (x : ℕ) (a b : List (List ℕ)) → count-all x (a ++ b) ≡ count-all x a + count-all x b
 count-all-append x [] b = omega arith
 count-all-append x (l ∷ a) b = let e = count-all-append x a b in omega arith
+
+pub count-all-gone : (x : ℕ) (ls : List (List ℕ)) → count-all x (map (without x) ls) ≡ 0
+count-all-gone x [] = refl
+count-all-gone x (l ∷ ls) = let a = count-gone x l in let b = count-all-gone x ls in omega arith
+
+pub count-all-kept : (x z : ℕ) (ls : List (List ℕ)) → (x ≡ z → ⊥) → count-all z (map (without x) ls) ≡ count-all z ls
+count-all-kept x z [] n = refl
+count-all-kept x z (l ∷ ls) n = let a = count-kept x z l n in let b = count-all-kept x z ls n in omega arith
+
+-- lists of at most m count at most m each
+pub count-all-most : (m x : ℕ) (ls : List (List ℕ)) → ((k : ℕ) → k < length ls → length (getD ls k []) ≤ m) → count-all x ls ≤ m * length ls
+count-all-most m x [] h = omega arith
+count-all-most m x (l ∷ ls) h =
+    let rest = count-all-most m x ls (λ k i. h (suc k) (omega arith)) in
+    omega (arith, count-at-most x l, h 0 (omega arith))
+
+pub count-all-first : (x : ℕ) (ls : List (List ℕ)) → count-all x (take 1 ls) ≡ count x (getD ls 0 [])
+count-all-first x [] = refl
+count-all-first x (l ∷ ls) = omega arith
 
 pub count-all-alter : (x p : ℕ) (g : List ℕ → List ℕ) (ls : List (List ℕ)) → p < length ls
     → count-all x (alter p g ls) + count x (getD ls p []) ≡ count-all x ls + count x (g (getD ls p []))

@@ -1,14 +1,14 @@
 -- What the counts after each group of lists say of a thread: whether it waits for flags, whether it waits or sleeps, and on how many lists it stands.
-use mathlib.Core.Path.{_≡_, refl, _∙_, ap}
+use mathlib.Core.Path.{_≡_, _∙_, ap}
 use mathlib.Core.Bool.{_||_}
-use mathlib.Core.List.{List, [], _∷_, map}
+use mathlib.Core.List.{List, [], map}
 use Prim.Native.Nat.{ℕ, _+_, _<_}
 use native.Mathlib.Omega.{arith}
 use lib.Dec.{ltb}
 use lib.ListN.{length, getD, take, drop, replicate, length-drop, length-map, getD-replicate}
 use lib.Seq.{slice, take-all}
 use Rattle.sequences.specs.Lists.{count, count-all, take-each, among, among-any}
-use Rattle.sequences.proofs.Counts.{among-count, among-any-count, or-sum}
+use Rattle.sequences.proofs.Counts.{among-count, among-any-count, or-sum, count-all-first}
 use Rattle.sequences.proofs.Slices.{slice-to-end, count-all-meets}
 use Rattle.model.specs.declared.tables.Table.{Table}
 use Rattle.model.specs.Words.{awaits-flags, is-waiting, sleeps}
@@ -21,10 +21,6 @@ pub record Counted (t : Table) (rows : Rows) (all rest flags : List ℕ) : Type 
   pub resting : (i : ℕ) → i < 16 → is-waiting i (view t rows) || sleeps i (view t rows) ≡ ltb 0 (getD rest i 0)
   pub standing : (i : ℕ) → i < 16 → count-all i (view t rows .ready) + count-all i (view t rows .waits) ≡ getD all i 0
 
-count-first : (x : ℕ) (ls : List (List ℕ)) → count-all x (take 1 ls) ≡ count x (getD ls 0 [])
-count-first x [] = refl
-count-first x (l ∷ ls) = omega arith
-
 -- where a thread stands among eighteen lists, by its counts in their four groups
 module _ (lists : List (List ℕ)) (h : length lists ≡ 18) (i : ℕ) where
   flags-counted : (n : ℕ) → n ≡ count-all i (slice 14 18 lists) → among-any i (take 4 (drop 14 lists)) ≡ ltb 0 n
@@ -36,7 +32,7 @@ module _ (lists : List (List ℕ)) (h : length lists ≡ 18) (i : ℕ) where
   rest-counted n e =
       let tail : count-all i (slice 2 18 lists) ≡ count-all i (drop 2 lists) = ap (count-all i) (slice-to-end lists 2 18 (omega arith)) in
       let sum : n ≡ count-all i (drop 2 lists) + count i (getD lists 0 []) =
-      omega (arith, count-first i lists, count-all-meets i lists 2 14 18 (omega arith) (omega arith) (omega arith)) in
+      omega (arith, count-all-first i lists, count-all-meets i lists 2 14 18 (omega arith) (omega arith) (omega arith)) in
       rw (among-any-count i (drop 2 lists), among-count i (getD lists 0 []), sum) (or-sum (count-all i (drop 2 lists)) (count i (getD lists 0 [])))
 
   all-counted : count-all i lists

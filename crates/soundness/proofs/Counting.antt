@@ -1,15 +1,14 @@
 -- Counts of the sixteen threads while lists are gone over: one id more, one list more, and how far lists take a count up.
-use mathlib.Core.Path.{_≡_, refl, sym, _∙_}
+use mathlib.Core.Path.{_≡_, _∙_}
 use mathlib.Core.Bool.{true}
 use mathlib.Core.List.{List, [], _∷_, _++_, map}
-use Prim.Native.Nat.{ℕ, suc, _+_, _*_, _<_, _≤_}
+use Prim.Native.Nat.{ℕ, _+_, _<_, _≤_}
 use native.Mathlib.Decide.{ℕ-discrete}
 use native.Mathlib.Omega.{arith}
-use borrow.Author.Tests.{eq-eqb, ne-eqb}
 use lib.ListN.{length, getD, set, length-set, length-take, length-map, List·getD-map}
 use lib.Seq.{slice, getD-set-same, getD-set-other}
-use Rattle.sequences.specs.Lists.{count, count-all, every-below}
-use Rattle.sequences.proofs.Counts.{count-append, count-all-append, count-at-most}
+use Rattle.sequences.specs.Lists.{every-below}
+use Rattle.sequences.proofs.Counts.{count-append, count-all-append, count-at-most, count-one, count-other, count-all-most}
 use Rattle.sequences.proofs.Slices.{count-all-slice}
 use Rattle.sequences.proofs.Tests.{every-below-at}
 use Rattle.model.specs.declared.tables.IdList.{IdList}
@@ -21,12 +20,6 @@ use Rattle.soundness.proofs.Fitting.{fitting}
 pub tallied-empty : (counts : List ℕ) → length counts ≡ 16 → Tallied counts ([] ∷ []) counts
 tallied-empty counts h = record { size = h; at = λ i j. omega arith }
 
-one : (x : ℕ) → count x (x ∷ []) ≡ 1
-one x = rw (eq-eqb x x refl)
-
-other : (i x : ℕ) → (i ≡ x → ⊥) → count i (x ∷ []) ≡ 0
-other i x n = rw (ne-eqb x i (λ e. n (sym e)))
-
 module _ {before after : List ℕ} {l : List ℕ} (w : Tallied before (l ∷ []) after) where
   pub tallied-id : (x : ℕ) → x < 16 → Tallied before ((l ++ x ∷ []) ∷ []) (set after x (getD after x 0 + 1))
   tallied-id x h =
@@ -35,8 +28,8 @@ module _ {before after : List ℕ} {l : List ℕ} (w : Tallied before (l ∷ [])
         at = λ i j.
             let more = count-append i l (x ∷ []) in
             elim (ℕ-discrete i x) [
-              | yes s ↦ rw (s, getD-set-same after x (getD after x 0 + 1) 0 (omega (arith, w .size))) (omega (arith, w .at x h, rw s at more, one x))
-              | no s ↦ rw (getD-set-other after x i (getD after x 0 + 1) 0 s) (omega (arith, w .at i j, other i x s))
+              | yes s ↦ rw (s, getD-set-same after x (getD after x 0 + 1) 0 (omega (arith, w .size))) (omega (arith, w .at x h, rw s at more, count-one x))
+              | no s ↦ rw (getD-set-other after x i (getD after x 0 + 1) 0 s) (omega (arith, w .at i j, count-other i x s))
             ];
       }
 
@@ -51,12 +44,6 @@ tallied-more {lists = lists} {l = l} v w =
 
 -- ---- from count to count: no group of wait lists takes one up by more than their room together
 
-count-all-most : (x : ℕ) (ls : List (List ℕ)) → ((k : ℕ) → k < length ls → length (getD ls k []) ≤ 16) → count-all x ls ≤ 16 * length ls
-count-all-most x [] h = omega arith
-count-all-most x (l ∷ ls) h =
-    let rest = count-all-most x ls (λ k i. h (suc k) (omega arith)) in
-    omega (arith, count-at-most x l, h 0 (omega arith))
-
 module _ (waits : List IdList) (size : length waits ≡ 18) (e : every-below 18 (λ j. wait-list-fits (list-at waits j)) ≡ true) where
   pub waits-short : (j : ℕ) → j < 18 → length (ids-of (list-at waits j)) ≤ 16
   waits-short j h =
@@ -68,5 +55,5 @@ module _ (waits : List IdList) (size : length waits ≡ 18) (e : every-below 18 
       → ((i : ℕ) → i < 16 → getD before i 0 ≤ n) → (i : ℕ) → i < 16 → getD after i 0 ≤ n + 288
   waits-small from to n h k w small i j =
       let many : length (map ids-of waits) ≡ 18 = length-map waits ids-of ∙ size in
-      let most = count-all-most i (map ids-of waits) (λ k g. rw (List·getD-map ids-of waits k no-ids) (waits-short k (omega arith))) in
+      let most = count-all-most 16 i (map ids-of waits) (λ k g. rw (List·getD-map ids-of waits k no-ids) (waits-short k (omega arith))) in
       omega (arith, w .at i j, small i j, count-all-slice i (map ids-of waits) from to h (omega arith))

@@ -25,7 +25,7 @@ abbrev waits-orderly : Table → Bool
 waits-orderly t = every (λ (l : IdList). row-orderly (l .length) (l .ids)) (t .waits)
 
 -- what they stand for
-pub record Orderly-lists (t : Table) (rows : Rows) : Type 0 where
+pub record OrderlyLists (t : Table) (rows : Rows) : Type 0 where
   pub layout : orderly t rows ≡ true
   pub ready : every ids-in-range (view t rows .ready) ≡ true
   pub waits : every ids-in-range (view t rows .waits) ≡ true
@@ -78,7 +78,7 @@ module _ (t : Table) (rows : Rows) (w : Shape t rows) where
         every-places ids-in-range [] (map ids-of (t .waits)) 18 ranged waits-count (λ j h. ap ids-in-range (wait-at j)),
       )
 
-  pub lists-orderly : ready-fits t rows ≡ true → waits-fit t ≡ true → Orderly-lists t rows
+  pub lists-orderly : ready-fits t rows ≡ true → waits-fit t ≡ true → OrderlyLists t rows
   lists-orderly e f =
       let in-ready = every ids-in-range (view t rows .ready) in
       let in-waits = every ids-in-range (view t rows .waits) in
@@ -90,7 +90,7 @@ module _ (t : Table) (rows : Rows) (w : Shape t rows) where
         waits = right (waits-orderly t) in-waits v;
       }
 
-  pub lists-pass : Orderly-lists t rows → (ready-fits t rows ≡ true) × (waits-fit t ≡ true)
+  pub lists-pass : OrderlyLists t rows → (ready-fits t rows ≡ true) × (waits-fit t ≡ true)
   lists-pass o =
       let l = sym layout-parts ∙ o .layout in
       let stored = left (rows-orderly t rows) (waits-orderly t) l in

@@ -18,7 +18,7 @@ use Rattle.model.specs.Layout.{Rows, ids-of, no-ids, view}
 use Rattle.soundness.specs.Lists.{wait-list-fits, list-at, thread-at}
 use Rattle.soundness.specs.Records.{semaphore-fits, mutex-fits, flags-fit}
 use Rattle.soundness.proofs.Fitting.{fitting-length}
-use Rattle.soundness.proofs.Passes.{every-by-columns}
+use Rattle.sequences.proofs.Bounds.{every-by-columns}
 use Rattle.soundness.specs.Shape.{Shape}
 
 pub list-ids : (t : Table) (rows : Rows) (j : ℕ) → list j (view t rows) ≡ ids-of (list-at (t .waits) j)

@@ -19,7 +19,8 @@ use Rattle.table.specs.Owners.{owns-one-of}
 use Rattle.soundness.specs.Lists.{thread-at}
 use Rattle.soundness.specs.Records.{thread-fits}
 use Rattle.soundness.specs.Shape.{Shape}
-use Rattle.soundness.proofs.Passes.{not-positive, every-by-columns}
+use Rattle.sequences.proofs.Bounds.{every-by-columns}
+use Rattle.soundness.proofs.Passes.{not-positive}
 
 pub owns-any-one-of : (i : ℕ) (s : State) → owns-any i s ≡ owns-one-of (s .mutexes) i
 unfolding owns-any owns-one-of

@@ -16,7 +16,7 @@ use Rattle.model.specs.Layout.{Rows, view}
 use Rattle.table.specs.Objects.{names-one-of}
 use Rattle.soundness.specs.Records.{timer-fits}
 use Rattle.soundness.specs.Shape.{Shape}
-use Rattle.soundness.proofs.Passes.{every-by-columns}
+use Rattle.sequences.proofs.Bounds.{every-by-columns}
 
 pub names-object-one-of : (kind object : ℕ) (s : State) → names-object kind object s ≡ names-one-of (s .semaphores) (s .flags) kind object
 names-object-one-of zero object s = refl

@@ -14,7 +14,7 @@ use Rattle.model.specs.Sound.{clauses, sound-but-choice, sound, choice-fits}
 use Rattle.model.specs.Layout.{Rows, view, orderly, sound-table}
 use Rattle.soundness.specs.Whole.{ready-fits, waits-fit, lists-fit, members-fit, threads-fit, records-fit, member-clauses, thread-clauses, record-clauses}
 use Rattle.soundness.specs.Shape.{Shape}
-use Rattle.soundness.proofs.ListLaws.{Orderly-lists, shape-shaped, lists-orderly, lists-pass}
+use Rattle.soundness.proofs.ListLaws.{OrderlyLists, shape-shaped, lists-orderly, lists-pass}
 
 -- ---- soundness but for the choice: the shape and the clock, the ids in lists, and what three passes ask
 
@@ -58,7 +58,7 @@ module _ (t : Table) (rows : Rows) (w : Shape t rows) where
   pub unfit-unsound : lists-fit t rows ≡ false → sound-table t rows ≡ false
   unfit-unsound h = untrue (sound-table t rows) (λ e. sym h ∙ sound-fit e)
 
-  pub fit-lists : lists-fit t rows ≡ true → Orderly-lists t rows
+  pub fit-lists : lists-fit t rows ≡ true → OrderlyLists t rows
   unfolding lists-fit
   fit-lists h = lists-orderly t rows w (left (ready-fits t rows) (waits-fit t) h) (right (ready-fits t rows) (waits-fit t) h)
 

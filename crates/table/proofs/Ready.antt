@@ -9,7 +9,7 @@ use borrow.Author.Tests.{ltb-true}
 use lib.Dec.{eqb, ltb}
 use lib.ListN.{getD, set}
 use Rattle.sequences.specs.Lists.{count, first-at, remove-at, without, snoc, take-each}
-use Rattle.sequences.proofs.Counts.{count-all-at}
+use Rattle.sequences.proofs.Counts.{count-all-at, first-counts}
 use Rattle.sequences.proofs.Places.{alter-alike}
 use Rattle.sequences.proofs.Removal.{without-once}
 use Rattle.rows.specs.Row.{Changed}
@@ -23,7 +23,6 @@ use Rattle.model.specs.Layout.{view}
 use Rattle.model.specs.Words.{is-ready, leave, enter-ready}
 use Rattle.placed.proofs.Leaving.{ready-level, leave-from-ready}
 use Rattle.table.specs.Orderly.{Orderly, Given, Does}
-use Rattle.table.proofs.Finds.{found-or-none}
 use Rattle.table.proofs.Views.{table-lengths, stored-row, same-word}
 
 -- the place of thread i in the ready list of priority p
@@ -40,7 +39,7 @@ module _ {t : Table} {rows : layout.Rows} {i : ℕ} {x : Thread} (e : x ≡ getD
     unfolding view
     found-ready =
         ap (ltb (found t rows i (x .current))) (sym (length-at (g .order .ready) (x .current) priority-below))
-        ∙ found-or-none i (getD (take-each (t .lengths) rows) (x .current) [])
+        ∙ first-counts i (getD (take-each (t .lengths) rows) (x .current) [])
         ∙ rw e (sym (ready-level (g .placed) i))
 
     module _ {k : ℕ} (ready : is-ready i (view t rows) ≡ true) (at : k ≡ found t rows i (x .current)) where

@@ -8,9 +8,8 @@ use lib.Dec.{ltb}
 use lib.ListN.{getD, take}
 use lib.Seq.{take-all}
 use Rattle.sequences.specs.Lists.{among, among-any, take-each}
-use Rattle.sequences.proofs.Counts.{among-count, among-any-grown}
+use Rattle.sequences.proofs.Counts.{among-count, among-any-grown, first-counts}
 use Rattle.rows.proofs.Rows.{lists-many, length-at}
-use Rattle.table.proofs.Finds.{found-or-none}
 use Rattle.soundness.proofs.choice.on_ready_list.Statement.{statement}
 use Rattle.soundness.proofs.choice.on_ready_list.Tie as tie
 
@@ -34,7 +33,7 @@ loop-again c =
     let ls = take-each (s .args .t1) (s .args .rows) in
     let h : l .p < 8 = c .before .loop-test .taken in
     let found : ltb (c .find .result) (getD (s .args .t1) (l .p) 0) ≡ among i (getD ls (l .p) []) =
-    rw (c .find .ensures, ← length-at (s .pre) (l .p) h) (found-or-none i (getD ls (l .p) []) ∙ sym (among-count i (getD ls (l .p) [])))
+    rw (c .find .ensures, ← length-at (s .pre) (l .p) h) (first-counts i (getD ls (l .p) []) ∙ sym (among-count i (getD ls (l .p) [])))
     in
     (omega arith, rw (l .inv .1, found) (sym (among-any-grown i ls (l .p) (omega (arith, lists-many (s .pre))))))
 
