@@ -6,12 +6,13 @@ use Prim.Native.Nat.{ℕ}
 use lib.Dec.{eqb, leb}
 use lib.ListN.{length, take, drop, getD}
 use Rattle.sequences.specs.Lists.{padded, take-each, every, all-true, all-zero}
+use Rattle.model.specs.declared.tables.Thread.{Thread}
 use Rattle.model.specs.declared.tables.IdList.{IdList}
 use Rattle.model.specs.declared.tables.Table.{Table}
 use Rattle.model.specs.declared.requests.Request.{Request}
 use Rattle.model.specs.declared.answers.Answer.the-variants.{Unsound}
 use Rattle.model.specs.declared.answers.Reply.{Reply}
-use Rattle.model.specs.State.{State, places, priority-count, fresh}
+use Rattle.model.specs.State.{State, places, priority-count, absent-thread, fresh}
 use Rattle.model.specs.Sound.{each-priority, shaped, sound}
 use Rattle.model.specs.Answers.{report}
 use Rattle.model.specs.Kernel.{Outcome, call}
@@ -27,6 +28,13 @@ ids-of l = take (l .length) (l .ids)
 -- what stands for a list where there is none
 abbrev pub no-ids : IdList
 no-ids = record { length = 0; ids = [] }
+
+-- one list, and one thread's record, of the arrays that hold them
+abbrev pub list-at : List IdList → ℕ → IdList
+list-at waits j = getD waits j no-ids
+
+abbrev pub thread-at : List Thread → ℕ → Thread
+thread-at threads i = getD threads i absent-thread
 
 unfoldable pub view : Table → Rows → State
 view t rows =

@@ -11,7 +11,8 @@ use lib.Seq.{drop-cons}
 use Rattle.sequences.specs.Lists.{every}
 use Rattle.sequences.proofs.Bounds.{falls-behind, falls-step, falls-end}
 use Rattle.model.specs.declared.tables.Thread.{Thread}
-use Rattle.soundness.specs.Lists.{thread-at, member-fits, list-asks, of-object}
+use Rattle.model.specs.Layout.{thread-at}
+use Rattle.soundness.specs.Lists.{member-fits, list-asks, of-object}
 
 one-before-rest : (a f e s z o r : Bool) → a && ((f && e) && (s || ((z || o) && r))) ≡ ((a && f) && ((s || z) || o)) && (e && (s || r))
 one-before-rest false f e s z o r = refl

@@ -1,5 +1,5 @@
 pub mod Fitting
-pub mod Passes
+pub mod Positive
 pub mod Asking
 pub mod Counting
 pub mod Counted

@@ -5,7 +5,7 @@ use mathlib.Core.List.{[], map}
 use Prim.Native.Nat.{ℕ, _<_}
 use native.Mathlib.Omega.{arith}
 use borrow.Author.Tests.{eq-eqb}
-use lib.ListN.{length, getD, take, length-map, List·getD-map}
+use lib.ListN.{length, getD, take, length-map}
 use Rattle.sequences.specs.Lists.{every, every-below, take-each}
 use Rattle.sequences.proofs.Tests.{both, left, right, every-below-both}
 use Rattle.sequences.proofs.Bounds.{every-places}
@@ -13,8 +13,9 @@ use Rattle.sequences.proofs.Places.{take-each-at, length-take-each}
 use Rattle.model.specs.declared.tables.IdList.{IdList}
 use Rattle.model.specs.declared.tables.Table.{Table}
 use Rattle.model.specs.Sound.{shaped, ids-in-range}
-use Rattle.model.specs.Layout.{Rows, ids-of, no-ids, view, row-orderly, orderly}
-use Rattle.soundness.specs.Lists.{list-fits, list-at}
+use Rattle.model.specs.Layout.{Rows, ids-of, no-ids, view, row-orderly, orderly, list-at}
+use Rattle.table.proofs.Views.{list-view}
+use Rattle.soundness.specs.Lists.{list-fits}
 use Rattle.soundness.specs.Whole.{ready-fits, waits-fit}
 use Rattle.soundness.specs.Shape.{Shape}
 
@@ -33,9 +34,6 @@ pub record OrderlyLists (t : Table) (rows : Rows) : Type 0 where
 module _ (t : Table) (rows : Rows) (w : Shape t rows) where
   pub ready-at : (p : ℕ) → p < 8 → getD (take-each (t .lengths) rows) p [] ≡ take (getD (t .lengths) p 0) (getD rows p [])
   ready-at p h = take-each-at (t .lengths) rows p (omega (arith, w .lengths)) (omega (arith, w .rows))
-
-  pub wait-at : (j : ℕ) → getD (map ids-of (t .waits)) j [] ≡ ids-of (list-at (t .waits) j)
-  wait-at j = List·getD-map ids-of (t .waits) j no-ids
 
   ready-count : length (take-each (t .lengths) rows) ≡ 8
   ready-count = length-take-each (t .lengths) rows (w .rows ∙ sym (w .lengths)) ∙ w .lengths
@@ -75,7 +73,7 @@ module _ (t : Table) (rows : Rows) (w : Shape t rows) where
       every-below-both stored ranged 18
       ∙ rw (
         every-places (λ (l : IdList). row-orderly (l .length) (l .ids)) no-ids (t .waits) 18 stored (w .waits) (λ j h. refl),
-        every-places ids-in-range [] (map ids-of (t .waits)) 18 ranged waits-count (λ j h. ap ids-in-range (wait-at j)),
+        every-places ids-in-range [] (map ids-of (t .waits)) 18 ranged waits-count (λ j h. ap ids-in-range (list-view t rows j)),
       )
 
   pub lists-orderly : ready-fits t rows ≡ true → waits-fit t ≡ true → OrderlyLists t rows

@@ -13,10 +13,11 @@ use Rattle.model.specs.declared.tables.Table.{Table}
 use Rattle.model.specs.State.{absent-flags}
 use Rattle.model.specs.Sound.{ready-by-priority, wait-lists-fall, sleepers-limited, conditions-unmet, flag-waiters-masked}
 use Rattle.model.specs.Words.{holds}
-use Rattle.model.specs.Layout.{Rows, ids-of, view}
-use Rattle.soundness.specs.Lists.{list-at, thread-at, member-fits, list-asks, of-ready, of-sleep, of-stopped, of-object, of-flags}
+use Rattle.model.specs.Layout.{Rows, ids-of, view, list-at, thread-at}
+use Rattle.soundness.specs.Lists.{member-fits, list-asks, of-ready, of-sleep, of-stopped, of-object, of-flags}
 use Rattle.soundness.specs.Whole.{members-fit}
-use Rattle.soundness.proofs.ListLaws.{ready-at, wait-at, waits-count}
+use Rattle.table.proofs.Views.{list-view}
+use Rattle.soundness.proofs.ListLaws.{ready-at, waits-count}
 use Rattle.soundness.specs.Shape.{Shape}
 
 -- the order by current priority
@@ -74,13 +75,13 @@ module _ (t : Table) (rows : Rows) (w : Shape t rows) where
       sym (every-below-split (λ j. list-in-order t (2 + j)) 12 4)
       ∙ sym
       (every-places (in-order t) [] (drop 2 waits) 16 (λ j. list-in-order t (2 + j)) (length-drop 2 waits ∙ rw (waits-count t rows w) refl)
-      (λ j h. ap (in-order t) (getD-drop 2 waits j [] ∙ wait-at t rows w (2 + j))))
+      (λ j h. ap (in-order t) (getD-drop 2 waits j [] ∙ list-view t rows (2 + j))))
 
   sleep-clause : sleep-asks t ≡ sleepers-limited (view t rows)
   unfolding every-below list-asks member-fits sleepers-limited view
   sleep-clause =
       let limited : ℕ → Bool = λ i. ltb 0 (thread-at (t .threads) i .limit) in
-      and-true (every limited (ids-of (list-at (t .waits) 0))) ∙ ap (every limited) (sym (wait-at t rows w 0))
+      and-true (every limited (ids-of (list-at (t .waits) 0))) ∙ ap (every limited) (sym (list-view t rows 0))
 
   flags-clauses : flags-ask t ≡ (conditions-unmet (view t rows) && flag-waiters-masked (view t rows)) && every-below 4 (λ o. list-in-order t (14 + o))
   unfolding list-asks member-fits conditions-unmet flag-waiters-masked view
@@ -92,7 +93,7 @@ module _ (t : Table) (rows : Rows) (w : Shape t rows) where
       ∙ ap (λ (b : Bool). b && every-below 4 (λ o. list-in-order t (14 + o)))
       (every-below-same (λ o. every (λ i. unmet o i && masked i) (ids-of (list-at (t .waits) (14 + o))))
       (λ o. every (unmet o) (waiting o) && every masked (waiting o)) 4
-      (λ o h. ap (every (λ i. unmet o i && masked i)) (sym (wait-at t rows w (14 + o))) ∙ every-two (unmet o) masked 0 (waiting o))
+      (λ o h. ap (every (λ i. unmet o i && masked i)) (sym (list-view t rows (14 + o))) ∙ every-two (unmet o) masked 0 (waiting o))
       ∙ every-below-both (λ o. every (unmet o) (waiting o)) (λ o. every masked (waiting o)) 4)
 
   -- the groups in the walk's order, and what it has found after each

@@ -5,7 +5,7 @@ use mathlib.Core.Bool.{true}
 use mathlib.Core.List.{List, [], _∷_}
 use Prim.Native.Nat.{ℕ, _+_, _<_}
 use native.Mathlib.Omega.{arith}
-use lib.ListN.{length, getD, List·getD-map}
+use lib.ListN.{length, getD}
 use Rattle.sequences.specs.Lists.{every, every-below, all-true, among}
 use Rattle.sequences.proofs.Tests.{every-below-at}
 use Rattle.model.specs.declared.tables.Table.{Table}
@@ -14,22 +14,19 @@ use Rattle.model.specs.Parts.{semaphore, mutex, thread, flag-object, list}
 use Rattle.model.specs.Sound.{semaphore-in-range, awaited-semaphores-empty, counts-within-maximum, absent-semaphores-zero}
 use Rattle.model.specs.Sound.{mutex-in-range, unowned-written-zero, awaited-mutexes-owned, owners-created, owners-wait-elsewhere, absent-mutexes-zero}
 use Rattle.model.specs.Sound.{flags-in-range, absent-flags-zero}
-use Rattle.model.specs.Layout.{Rows, ids-of, no-ids, view}
-use Rattle.soundness.specs.Lists.{wait-list-fits, list-at, thread-at}
+use Rattle.model.specs.Layout.{Rows, ids-of, view, list-at, thread-at}
+use Rattle.soundness.specs.Lists.{wait-list-fits}
 use Rattle.soundness.specs.Records.{semaphore-fits, mutex-fits, flags-fit}
+use Rattle.table.proofs.Views.{list-view}
 use Rattle.soundness.proofs.Fitting.{fitting-length}
 use Rattle.sequences.proofs.Bounds.{every-by-columns}
 use Rattle.soundness.specs.Shape.{Shape}
-
-pub list-ids : (t : Table) (rows : Rows) (j : ℕ) → list j (view t rows) ≡ ids-of (list-at (t .waits) j)
-unfolding view
-list-ids t rows j = List·getD-map ids-of (t .waits) j no-ids
 
 module _ (t : Table) (rows : Rows) (w : Shape t rows) (fit : every-below 18 (λ j. wait-list-fits (list-at (t .waits) j)) ≡ true) where
   pub list-length : (j : ℕ) → j < 18 → length (list j (view t rows)) ≡ list-at (t .waits) j .length
   list-length j h =
       let l = list-at (t .waits) j in
-      ap length (list-ids t rows j) ∙ fitting-length (l .length) (l .ids) (every-below-at (λ j. wait-list-fits (list-at (t .waits) j)) 18 j h fit)
+      ap length (list-view t rows j) ∙ fitting-length (l .length) (l .ids) (every-below-at (λ j. wait-list-fits (list-at (t .waits) j)) 18 j h fit)
 
   pub semaphores-by-clauses : every-below 8 (λ o. semaphore-fits (getD (t .semaphores) o absent-semaphore) (list-at (t .waits) (2 + o) .length))
       ≡ all-true
@@ -63,7 +60,7 @@ module _ (t : Table) (rows : Rows) (w : Shape t rows) (fit : every-below 18 (λ 
       let owner = thread (x .owner) (view t rows) in
       let l = list-at (t .waits) (10 + o) in
       ap (λ (n : ℕ). mutex-fits x owner n (among (x .owner) (ids-of l))) (sym (list-length (10 + o) (omega arith)))
-      ∙ ap (λ (ids : List ℕ). mutex-fits x owner (length (list (10 + o) (view t rows))) (among (x .owner) ids)) (sym (list-ids t rows (10 + o))))
+      ∙ ap (λ (ids : List ℕ). mutex-fits x owner (length (list (10 + o) (view t rows))) (among (x .owner) ids)) (sym (list-view t rows (10 + o))))
 
   pub flags-by-clauses : every-below 4 (λ o. flags-fit (getD (t .flags) o absent-flags) (list-at (t .waits) (14 + o) .length))
       ≡ all-true (every flags-in-range (view t rows .flags) ∷ absent-flags-zero (view t rows) ∷ [])

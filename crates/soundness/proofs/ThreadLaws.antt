@@ -14,13 +14,12 @@ use Rattle.model.specs.Ranges.{_implies_}
 use Rattle.model.specs.Words.{sleeps, is-waiting, awaits-flags, owns-any}
 use Rattle.model.specs.Sound.{thread-in-range, zero-thread, each-on-one-list, absent-threads-zero, currents-fit, others-unlimited}
 use Rattle.model.specs.Sound.{others-maskless, waits-without-result, quanta-fit}
-use Rattle.model.specs.Layout.{Rows, view}
+use Rattle.model.specs.Layout.{Rows, view, thread-at}
 use Rattle.table.specs.Owners.{owns-one-of}
-use Rattle.soundness.specs.Lists.{thread-at}
 use Rattle.soundness.specs.Records.{thread-fits}
 use Rattle.soundness.specs.Shape.{Shape}
 use Rattle.sequences.proofs.Bounds.{every-by-columns}
-use Rattle.soundness.proofs.Passes.{not-positive}
+use Rattle.soundness.proofs.Positive.{not-positive}
 
 pub owns-any-one-of : (i : ℕ) (s : State) → owns-any i s ≡ owns-one-of (s .mutexes) i
 unfolding owns-any owns-one-of

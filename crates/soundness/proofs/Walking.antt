@@ -11,8 +11,8 @@ use lib.Seq.{slice, take-all, getD-take, getD-drop, length-slice}
 use Rattle.sequences.specs.Lists.{every-below}
 use Rattle.sequences.proofs.Slices.{take-grown}
 use Rattle.model.specs.declared.tables.IdList.{IdList}
-use Rattle.model.specs.Layout.{ids-of, no-ids}
-use Rattle.soundness.specs.Lists.{Walked, wait-list-fits, list-at}
+use Rattle.model.specs.Layout.{ids-of, no-ids, list-at}
+use Rattle.soundness.specs.Lists.{Walked, wait-list-fits}
 use Rattle.soundness.proofs.Counting.{tallied-most, tallied-more, waits-short}
 
 -- a walk that had found `fits` and `counts`, after the first n of the lists, of which each asks `asks` of its place

@@ -8,9 +8,9 @@ use lib.ListN.{length, take, getD}
 use Rattle.sequences.specs.Lists.{count-all, every, falls}
 use Rattle.model.specs.declared.tables.Thread.{Thread}
 use Rattle.model.specs.declared.tables.IdList.{IdList}
-use Rattle.model.specs.State.{thread-count, absent-thread}
+use Rattle.model.specs.State.{thread-count}
 use Rattle.model.specs.Sound.{ids-in-range}
-use Rattle.model.specs.Layout.{row-orderly, no-ids}
+use Rattle.model.specs.Layout.{row-orderly, thread-at}
 use Rattle.model.specs.Words.{holds}
 
 -- one list as it is stored: room, zeros past its end, and threads' ids before it
@@ -19,12 +19,6 @@ list-fits n ids = row-orderly n ids && ids-in-range (take n ids)
 
 abbrev pub wait-list-fits : IdList → Bool
 wait-list-fits l = list-fits (l .length) (l .ids)
-
-abbrev pub list-at : List IdList → ℕ → IdList
-list-at waits j = getD waits j no-ids
-
-abbrev pub thread-at : List Thread → ℕ → Thread
-thread-at threads i = getD threads i absent-thread
 
 -- the kinds of lists
 abbrev pub of-ready : ℕ

@@ -4,7 +4,7 @@ ghost use lib.ListN.{getD};
 ghost use Rattle.sequences.specs.Lists.{every-below};
 ghost use Rattle.model.specs.Sound.{thread-in-range, zero-thread};
 ghost use Rattle.table.specs.Owners.{owns-one-of};
-ghost use Rattle.soundness.specs.Lists.{thread-at};
+ghost use Rattle.model.specs.Layout.{thread-at};
 ghost use Rattle.soundness.specs.Records.{thread-fits};
 use model::modes::ALL_CLEAR;
 use model::tables::Mutex;

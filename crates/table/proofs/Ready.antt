@@ -16,10 +16,9 @@ use Rattle.rows.specs.Row.{Changed}
 use Rattle.rows.proofs.Rows.{length-at}
 use Rattle.model.specs.declared.tables.Thread.{Thread}
 use Rattle.model.specs.declared.tables.Table.{Table}
-use Rattle.model.specs.State.{absent-thread}
 use Rattle.model.specs.Parts.{with-ready}
 use Rattle.model.specs.Layout as layout
-use Rattle.model.specs.Layout.{view}
+use Rattle.model.specs.Layout.{view, thread-at}
 use Rattle.model.specs.Words.{is-ready, leave, enter-ready}
 use Rattle.placed.proofs.Leaving.{ready-level, leave-from-ready}
 use Rattle.table.specs.Orderly.{Orderly, Given, Does}
@@ -29,7 +28,7 @@ use Rattle.table.proofs.Views.{table-lengths, stored-row, same-word}
 abbrev pub found : Table → layout.Rows → ℕ → ℕ → ℕ
 found t rows i p = first-at (λ y. eqb y i) (getD (take-each (t .lengths) rows) p [])
 
-module _ {t : Table} {rows : layout.Rows} {i : ℕ} {x : Thread} (e : x ≡ getD (t .threads) i absent-thread) where
+module _ {t : Table} {rows : layout.Rows} {i : ℕ} {x : Thread} (e : x ≡ thread-at (t .threads) i) where
   module _ (g : Given t rows i) where
     pub priority-below : x .current < 8
     unfolding view

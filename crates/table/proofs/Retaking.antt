@@ -10,10 +10,10 @@ use Rattle.model.specs.declared.tables.Table.{Table}
 use Rattle.model.specs.State.{State}
 use Rattle.model.specs.Parts.{alter-thread, with-current}
 use Rattle.model.specs.Layout as layout
-use Rattle.model.specs.Layout.{view, ids-of}
+use Rattle.model.specs.Layout.{view, ids-of, list-at}
 use Rattle.model.specs.Words.{is-ready, is-waiting, list-of, leave, become-ready, enter-ready, enter-by-priority, re-enter}
 use Rattle.placed.proofs.Standing.{leave-gone, leave-placed, current-placed}
-use Rattle.table.specs.Orderly.{list-at, Given, Meets, Does}
+use Rattle.table.specs.Orderly.{Given, Meets, Does}
 use Rattle.table.proofs.Rooms.{Off, off-after}
 use Rattle.table.proofs.Views.{does, and-then, list-view}
 
@@ -52,5 +52,5 @@ module _ {t : Table} {rows : layout.Rows} {i : ℕ} (g : Given t rows i) where
       let n = count-all i (view t rows .ready) in
       omega (arith, ltb-false 0 n (sym (among-any-count i (view t rows .ready)) ∙ h))
 
-  pub once-on : (j : ℕ) → count i (ids-of (list-at t j)) ≤ 1
+  pub once-on : (j : ℕ) → count i (ids-of (list-at (t .waits) j)) ≤ 1
   once-on j = rw (← list-view t rows j) (omega (arith, g .placed .once i, count-all-at i (view t rows .waits) j))

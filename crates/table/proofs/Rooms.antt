@@ -9,14 +9,14 @@ use Rattle.sequences.specs.Lists.{count}
 use Rattle.sequences.proofs.Counts.{count-there, count-all-at}
 use Rattle.rows.proofs.Rows.{length-held, length-at}
 use Rattle.model.specs.declared.tables.Table.{Table}
-use Rattle.model.specs.State.{State, absent-thread}
+use Rattle.model.specs.State.{State}
 use Rattle.model.specs.Parts.{list, alter-thread, with-wait}
 use Rattle.model.specs.Words.{suspend}
 use Rattle.model.specs.Layout as layout
-use Rattle.model.specs.Layout.{view, ids-of}
+use Rattle.model.specs.Layout.{view, ids-of, list-at, thread-at}
 use Rattle.placed.specs.Placed.{Placed, standing}
 use Rattle.placed.proofs.Standing.{room-ready, room-list, leave-gone, leave-placed, alter-placed}
-use Rattle.table.specs.Orderly.{list-at, Given, Ranked, Does}
+use Rattle.table.specs.Orderly.{Given, Ranked, Does}
 use Rattle.table.proofs.Views.{list-view}
 
 -- a table on which threads stand as they must, and this one stands on no list
@@ -32,7 +32,7 @@ module _ {t r : Table} {rows after : layout.Rows} {f : State → State} (d : Doe
   off-after off = record { given = given-after; off = rw (d .view) off }
 
 module _ {t : Table} {rows : layout.Rows} {i : ℕ} (w : Off t rows i) where
-  pub priority-in-range : getD (t .threads) i absent-thread .current < 8
+  pub priority-in-range : thread-at (t .threads) i .current < 8
   unfolding view
   priority-in-range = w .given .placed .priorities i
 
@@ -40,21 +40,21 @@ module _ {t : Table} {rows : layout.Rows} {i : ℕ} (w : Off t rows i) where
   unfolding view
   row-room p h = omega (arith, room-ready (w .given .placed) i (w .given .thread) (w .off) p, length-at (w .given .order .ready) p h)
 
-  pub list-room : (j : ℕ) → j < 18 → list-at t j .length < 16
+  pub list-room : (j : ℕ) → j < 18 → list-at (t .waits) j .length < 16
   list-room j h =
       omega (arith, room-list (w .given .placed) i (w .given .thread) (w .off) j, ap length (list-view t rows j), length-held (w .given .order .table .lists j h))
 
   pub ranked : (j : ℕ) → j < 18 → Ranked t j i
   ranked j h = record { list = h; thread = w .given .thread; ids = below }
     where
-      there : (k : ℕ) → k < list-at t j .length → 0 < count (getD (list-at t j .ids) k 0) (list j (view t rows))
+      there : (k : ℕ) → k < list-at (t .waits) j .length → 0 < count (getD (list-at (t .waits) j .ids) k 0) (list j (view t rows))
       there k l =
-          rw (list-view t rows j, ← getD-take (list-at t j .length) (list-at t j .ids) k 0 l)
-          (count-there (ids-of (list-at t j)) k (omega (arith, length-held (w .given .order .table .lists j h))))
+          rw (list-view t rows j, ← getD-take (list-at (t .waits) j .length) (list-at (t .waits) j .ids) k 0 l)
+          (count-there (ids-of (list-at (t .waits) j)) k (omega (arith, length-held (w .given .order .table .lists j h))))
 
-      below : (k : ℕ) → k < list-at t j .length → getD (list-at t j .ids) k 0 < 16
+      below : (k : ℕ) → k < list-at (t .waits) j .length → getD (list-at (t .waits) j .ids) k 0 < 16
       below k l =
-          let x = getD (list-at t j .ids) k 0 in
+          let x = getD (list-at (t .waits) j .ids) k 0 in
           elim (decLt x 16) [
             | yes s ↦ s
             | no s ↦ absurd (omega (arith, there k l, count-all-at x (view t rows .waits) j, w .given .placed .known x (omega arith)))

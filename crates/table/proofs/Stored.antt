@@ -17,9 +17,9 @@ use Rattle.model.specs.declared.tables.Table.{Table}
 use Rattle.model.specs.State.{State}
 use Rattle.model.specs.Sound.{sizes, shaped, sound-but-choice, choice-fits, sound}
 use Rattle.model.specs.Layout as layout
-use Rattle.model.specs.Layout.{view, ids-of, no-ids, laid-list, lay-table, lay-rows, row-orderly, orderly, sound-table}
+use Rattle.model.specs.Layout.{view, ids-of, no-ids, laid-list, lay-table, lay-rows, row-orderly, orderly, sound-table, list-at}
 use Rattle.placed.proofs.Sounds.{sound-placed}
-use Rattle.table.specs.Orderly.{Orderly, Given, list-at}
+use Rattle.table.specs.Orderly.{Orderly, Given}
 
 -- ---- one row
 
@@ -65,7 +65,7 @@ module _ (t : Table) (rows : layout.Rows) where
               timers = eqb-true (length (t .timers)) 8 (size 4);
               waits = waits;
               lists = λ j h.
-                  row-facts (list-at t j .length) (list-at t j .ids) (every-at list-fits no-ids (t .waits) j (omega arith) (all-true-at tests 4 e));
+                  row-facts (list-at (t .waits) j .length) (list-at (t .waits) j .ids) (every-at list-fits no-ids (t .waits) j (omega arith) (all-true-at tests 4 e));
             };
         ready =
             record {
@@ -90,7 +90,7 @@ module _ (t : Table) (rows : layout.Rows) where
         w .ready .wide,
         w .ready .tall,
         every-below-from row-fits 8 (λ p h. row-test (getD (t .lengths) p 0) (getD rows p []) (w .ready .each p h)),
-        every-from list-fits no-ids (t .waits) (λ j h. row-test (list-at t j .length) (list-at t j .ids) (w .table .lists j (omega (arith, w .table .waits)))),
+        every-from list-fits no-ids (t .waits) (λ j h. row-test (list-at (t .waits) j .length) (list-at (t .waits) j .ids) (w .table .lists j (omega (arith, w .table .waits)))),
       )
 
 -- ---- laid out and read again, nothing is lost; read and laid out again, an orderly table is as it was

@@ -4,7 +4,7 @@ use mathlib.Core.List.{List, []}
 use Prim.Native.Nat.{ℕ, _<_, _≤_}
 use native.Mathlib.Omega.{arith}
 use lib.Dec.{ltb}
-use lib.ListN.{length, getD, set, length-set, List·getD-map}
+use lib.ListN.{length, set, length-set, List·getD-map}
 use Rattle.sequences.specs.Lists.{alter}
 use Rattle.sequences.proofs.Places.{alter-set, alter-stored, map-alter, every-set}
 use Rattle.sequences.proofs.Searches.{first-at-most}
@@ -17,8 +17,8 @@ use Rattle.model.specs.State.{State, absent-thread}
 use Rattle.model.specs.Parts.{thread, list, with-threads, with-waits, with-ready, alter-thread}
 use Rattle.model.specs.Words.{rank}
 use Rattle.model.specs.Layout as layout
-use Rattle.model.specs.Layout.{view, ids-of, no-ids}
-use Rattle.table.specs.Orderly.{list-at, Listed, OrderlyTable, Orderly, Meets, Does}
+use Rattle.model.specs.Layout.{view, ids-of, no-ids, list-at, thread-at}
+use Rattle.table.specs.Orderly.{Listed, OrderlyTable, Orderly, Meets, Does}
 
 -- ---- the table with one part anew
 
@@ -34,12 +34,12 @@ table-lengths x t = record { clock = t .clock; off = t .off; chosen = t .chosen;
 -- ---- what the view says of a list
 
 module _ (t : Table) (rows : layout.Rows) where
-  pub list-view : (j : ℕ) → list j (view t rows) ≡ ids-of (list-at t j)
+  pub list-view : (j : ℕ) → list j (view t rows) ≡ ids-of (list-at (t .waits) j)
   unfolding view
   list-view j = List·getD-map ids-of (t .waits) j no-ids
 
 -- a place by rank is within the list
-pub rank-at-most : (t : Table) (i j : ℕ) {k : ℕ} → Row 16 (list-at t j .ids) (list-at t j .length) → k ≡ rank j i (view t []) → k ≤ list-at t j .length
+pub rank-at-most : (t : Table) (i j : ℕ) {k : ℕ} → Row 16 (list-at (t .waits) j .ids) (list-at (t .waits) j .length) → k ≡ rank j i (view t []) → k ≤ list-at (t .waits) j .length
 unfolding rank
 rank-at-most t i j row e =
     let s = view t [] in
@@ -66,7 +66,7 @@ module _ (t : Table) (w : OrderlyTable t) where
         view = λ rows. ap (λ (l : List Thread). with-threads l (view t rows)) (alter-set (λ (y : Thread). x) absent-thread (t .threads) i);
       }
 
-  pub stored-list : (j : ℕ) → j < 18 → (l : IdList) (g : List ℕ → List ℕ) → Listed l (g (ids-of (list-at t j)))
+  pub stored-list : (j : ℕ) → j < 18 → (l : IdList) (g : List ℕ → List ℕ) → Listed l (g (ids-of (list-at (t .waits) j)))
       → Meets t (λ s. with-waits (alter j g (s .waits)) s) (table-waits (set (t .waits) j l) t)
   unfolding view
   stored-list j h l g e =
@@ -109,7 +109,7 @@ stored-row {t} {rows} w e =
     }
 
 -- a record written is the record changed
-pub rewritten-thread : (t r : Table) (i : ℕ) (x : Thread) (g : Thread → Thread) → x ≡ g (getD (t .threads) i absent-thread) → Meets t (alter-thread i (λ _. x)) r → Meets t (alter-thread i g) r
+pub rewritten-thread : (t r : Table) (i : ℕ) (x : Thread) (g : Thread → Thread) → x ≡ g (thread-at (t .threads) i) → Meets t (alter-thread i (λ _. x)) r → Meets t (alter-thread i g) r
 unfolding view
 rewritten-thread t r i x g e m =
     record {

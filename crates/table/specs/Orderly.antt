@@ -9,11 +9,8 @@ use Rattle.model.specs.declared.tables.IdList.{IdList}
 use Rattle.model.specs.declared.tables.Table.{Table}
 use Rattle.model.specs.State.{State, thread-count, priority-count, semaphore-count, mutex-count, flags-count, timer-count, list-count, places}
 use Rattle.model.specs.Layout as layout
-use Rattle.model.specs.Layout.{view, no-ids}
+use Rattle.model.specs.Layout.{view, list-at}
 use Rattle.placed.specs.Placed.{Placed}
-
-abbrev pub list-at : Table → ℕ → IdList
-list-at t j = getD (t .waits) j no-ids
 
 -- a stored list that holds these ids
 abbrev pub Listed : IdList → List ℕ → Type 0
@@ -27,7 +24,7 @@ pub record OrderlyTable (t : Table) : Type 0 where
   pub flags : length (t .flags) ≡ flags-count
   pub timers : length (t .timers) ≡ timer-count
   pub waits : length (t .waits) ≡ list-count
-  pub lists : (j : ℕ) → j < list-count → Row places (list-at t j .ids) (list-at t j .length)
+  pub lists : (j : ℕ) → j < list-count → Row places (list-at (t .waits) j .ids) (list-at (t .waits) j .length)
 
 pub record Orderly (t : Table) (rows : layout.Rows) : Type 0 where
   pub table : OrderlyTable t
@@ -54,4 +51,4 @@ pub record Given (t : Table) (rows : layout.Rows) (i : ℕ) : Type 0 where
 pub record Ranked (t : Table) (j i : ℕ) : Type 0 where
   pub list : j < list-count
   pub thread : i < thread-count
-  pub ids : (k : ℕ) → k < list-at t j .length → getD (list-at t j .ids) k 0 < thread-count
+  pub ids : (k : ℕ) → k < list-at (t .waits) j .length → getD (list-at (t .waits) j .ids) k 0 < thread-count

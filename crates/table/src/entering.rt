@@ -5,9 +5,9 @@ ghost use lib.Dec.{ltb};
 ghost use lib.ListN.{getD, take};
 ghost use Rattle.sequences.specs.Lists.{first-at};
 ghost use Rattle.model.specs.State.{absent-thread};
-ghost use Rattle.model.specs.Layout.{Rows, view};
+ghost use Rattle.model.specs.Layout.{Rows, view, list-at, thread-at};
 ghost use Rattle.model.specs.Words.{enter-tail, enter-ready, rank, enter-by-priority};
-ghost use Rattle.table.specs.Orderly.{list-at, OrderlyTable, Orderly, Ranked, Meets, Does};
+ghost use Rattle.table.specs.Orderly.{OrderlyTable, Orderly, Ranked, Meets, Does};
 use crate::lists;
 use crate::threads;
 use model::tables::Table;
@@ -15,7 +15,7 @@ use model::tables::Thread;
 
 pub fn enter_tail(t: Table, j: usize, i: u8) -> Table
     requires { ⌜ OrderlyTable t ⌝ }
-    requires { ⌜ (j < 18) × (list-at t j .length < 16) ⌝ }
+    requires { ⌜ (j < 18) × (list-at (t .waits) j .length < 16) ⌝ }
     ensures { λ r. ⌜ Meets t (enter-tail j i) r ⌝ }
 {
     let old = t.waits[j];
@@ -28,7 +28,7 @@ pub fn enter_tail(t: Table, j: usize, i: u8) -> Table
 // The tail of the ready list of its current priority.
 pub fn enter_ready(t: Table, rows: &mut [[u8; 16]; 8], i: u8) -> Table
     requires { ⌜ Orderly t (now rows) ⌝ }
-    requires { ⌜ (i < 16) × (getD (t .threads) i absent-thread .current < 8) × (getD (t .lengths) (getD (t .threads) i absent-thread .current) 0 < 16) ⌝ }
+    requires { ⌜ (i < 16) × (thread-at (t .threads) i .current < 8) × (getD (t .lengths) (thread-at (t .threads) i .current) 0 < 16) ⌝ }
     ensures { λ r. ⌜ Does t (now (rows .entry)) (enter-ready i) r (now (rows .exit)) ⌝ }
 {
     let x = threads::thread(t, i);
@@ -47,7 +47,7 @@ pub fn enter_ready(t: Table, rows: &mut [[u8; 16]; 8], i: u8) -> Table
 fn place_below(ids: [u8; 16], n: usize, threads: [Thread; 16], p: u8) -> usize
     requires { ⌜ n ≤ 16 ⌝ }
     requires { ⌜ ((k : ℕ) → k < n → getD ids k 0 < 16) ⌝ }
-    ensures { λ r. ⌜ r ≡ first-at (λ x. ltb (getD threads x absent-thread .current) p) (take n ids) ⌝ }
+    ensures { λ r. ⌜ r ≡ first-at (λ x. ltb (thread-at threads x .current) p) (take n ids) ⌝ }
 {
     let mut k: usize = 0;
     while k < n {
@@ -78,7 +78,7 @@ pub fn rank(t: Table, j: usize, i: u8) -> usize
 pub fn enter_by_priority(t: Table, j: usize, i: u8) -> Table
     requires { ⌜ OrderlyTable t ⌝ }
     requires { ⌜ Ranked t j i ⌝ }
-    requires { ⌜ list-at t j .length < 16 ⌝ }
+    requires { ⌜ list-at (t .waits) j .length < 16 ⌝ }
     ensures { λ r. ⌜ Meets t (enter-by-priority j i) r ⌝ }
 {
     let k = rank(t, j, i);

@@ -7,9 +7,9 @@ ghost use lib.ListN.{getD};
 ghost use Rattle.sequences.specs.Lists.{alter, without, count, count-all};
 ghost use Rattle.model.specs.State.{absent-thread};
 ghost use Rattle.model.specs.Parts.{with-waits};
-ghost use Rattle.model.specs.Layout.{view, ids-of};
+ghost use Rattle.model.specs.Layout.{view, ids-of, list-at};
 ghost use Rattle.model.specs.Words.{is-ready, leave};
-ghost use Rattle.table.specs.Orderly.{list-at, OrderlyTable, Given, Meets, Does};
+ghost use Rattle.table.specs.Orderly.{OrderlyTable, Given, Meets, Does};
 use crate::lists;
 use crate::standing;
 use crate::threads;
@@ -19,7 +19,7 @@ use model::tables::Table;
 // Off list j, which is no ready list.
 pub fn leave_list(t: Table, j: usize, i: u8) -> Table
     requires { ⌜ OrderlyTable t ⌝ }
-    requires { ⌜ (j < 18) × (count i (ids-of (list-at t j)) ≤ 1) ⌝ }
+    requires { ⌜ (j < 18) × (count i (ids-of (list-at (t .waits) j)) ≤ 1) ⌝ }
     ensures { λ r. ⌜ Meets t (λ s. with-waits (alter j (without i) (s .waits)) s) r ⌝ }
 {
     let old = t.waits[j];

@@ -4,13 +4,14 @@ ghost use Prim.Native.Nat.{ℕ, _<_};
 ghost use lib.ListN.{getD};
 ghost use Rattle.model.specs.State.{absent-thread};
 ghost use Rattle.model.specs.Parts.{alter-thread, with-wait, with-current, refilled};
+ghost use Rattle.model.specs.Layout.{thread-at};
 ghost use Rattle.table.specs.Orderly.{OrderlyTable, Meets};
 use model::tables::Table;
 use model::tables::Thread;
 
 pub fn thread(t: Table, i: u8) -> Thread
     requires { ⌜ i < 16 ⌝ }
-    ensures { λ r. ⌜ r ≡ getD (t .threads) i absent-thread ⌝ }
+    ensures { λ r. ⌜ r ≡ thread-at (t .threads) i ⌝ }
 {
     let k = i as usize;
     t.threads[k]

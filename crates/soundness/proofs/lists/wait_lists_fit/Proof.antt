@@ -5,7 +5,8 @@ use borrow.Author.Needs.{needs}
 use native.Mathlib.Omega.{arith}
 use Rattle.sequences.specs.Lists.{every-below}
 use Rattle.sequences.proofs.Tests.{every-below-grown}
-use Rattle.soundness.specs.Lists.{wait-list-fits, list-at}
+use Rattle.model.specs.Layout.{list-at}
+use Rattle.soundness.specs.Lists.{wait-list-fits}
 use Rattle.soundness.proofs.lists.wait_lists_fit.Statement.{statement}
 use Rattle.soundness.proofs.lists.wait_lists_fit.Tie as tie
 

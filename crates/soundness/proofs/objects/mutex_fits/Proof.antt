@@ -6,7 +6,7 @@ use native.Mathlib.Omega.{arith}
 use borrow.Author.Tests.{le-leb}
 use Rattle.model.specs.Sound.{mutex-in-range}
 use Rattle.soundness.specs.Records.{mutex-fits}
-use Rattle.soundness.proofs.Passes.{positive-nonzero}
+use Rattle.soundness.proofs.Positive.{positive-nonzero}
 use Rattle.soundness.proofs.objects.mutex_fits.Statement.{statement}
 use Rattle.soundness.proofs.objects.mutex_fits.Tie as tie
 

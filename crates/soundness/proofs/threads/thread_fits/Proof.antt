@@ -7,7 +7,7 @@ use lib.Dec.{eqb, leb, ltb}
 use Rattle.model.specs.declared.tables.Thread.{Thread}
 use Rattle.model.specs.Sound.{thread-in-range, zero-thread}
 use Rattle.soundness.specs.Records.{thread-fits}
-use Rattle.soundness.proofs.Passes.{not-positive}
+use Rattle.soundness.proofs.Positive.{not-positive}
 use Rattle.soundness.proofs.threads.thread_fits.Statement.{statement}
 use Rattle.soundness.proofs.threads.thread_fits.Tie as tie
 

@@ -11,7 +11,7 @@ use Rattle.sequences.proofs.Tests.{every-below-grown}
 use Rattle.model.specs.declared.tables.Thread.{Thread}
 use Rattle.model.specs.declared.tables.Mutex.{Mutex}
 use Rattle.table.specs.Owners.{owns-one-of}
-use Rattle.soundness.specs.Lists.{thread-at}
+use Rattle.model.specs.Layout.{thread-at}
 use Rattle.soundness.specs.Records.{thread-fits}
 use Rattle.soundness.proofs.threads.threads_fit.Statement.{statement}
 use Rattle.soundness.proofs.threads.threads_fit.Tie as tie

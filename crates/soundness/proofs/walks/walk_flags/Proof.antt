@@ -12,8 +12,8 @@ use Rattle.model.specs.declared.tables.Thread.{Thread}
 use Rattle.model.specs.declared.tables.Flags.{Flags}
 use Rattle.model.specs.declared.tables.IdList.{IdList}
 use Rattle.model.specs.State.{absent-flags}
-use Rattle.model.specs.Layout.{ids-of}
-use Rattle.soundness.specs.Lists.{wait-list-fits, list-at, list-asks, of-flags}
+use Rattle.model.specs.Layout.{ids-of, list-at}
+use Rattle.soundness.specs.Lists.{wait-list-fits, list-asks, of-flags}
 use Rattle.soundness.proofs.Walking.{Walking, walking-none, walking-all, part-length, part-more}
 use Rattle.soundness.proofs.walks.walk_flags.Statement.{statement}
 use Rattle.soundness.proofs.walks.walk_flags.Tie as tie

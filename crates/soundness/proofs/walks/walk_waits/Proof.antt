@@ -9,8 +9,8 @@ use lib.Seq.{slice}
 use Rattle.sequences.proofs.Tests.{every-below-at}
 use Rattle.model.specs.declared.tables.Thread.{Thread}
 use Rattle.model.specs.declared.tables.IdList.{IdList}
-use Rattle.model.specs.Layout.{ids-of}
-use Rattle.soundness.specs.Lists.{wait-list-fits, list-at, list-asks}
+use Rattle.model.specs.Layout.{ids-of, list-at}
+use Rattle.soundness.specs.Lists.{wait-list-fits, list-asks}
 use Rattle.soundness.proofs.Walking.{Walking, walking-none, walking-all, part-length, part-more}
 use Rattle.soundness.proofs.walks.walk_waits.Statement.{statement}
 use Rattle.soundness.proofs.walks.walk_waits.Tie as tie

@@ -1,4 +1,5 @@
 -- The search goes place by place: what it finds is found from place k on.
+use Rattle.model.specs.Layout.{thread-at}
 use mathlib.Core.Path.{_≡_, sym, _∙_}
 use mathlib.Core.Bool.{Bool}
 use mathlib.Core.List.{List}
@@ -7,17 +8,16 @@ use native.Mathlib.Omega.{arith}
 use borrow.Author.Needs.{needs}
 use borrow.Author.Tests.{lt-ltb, le-ltb}
 use lib.Dec.{ltb}
-use lib.ListN.{length, getD, take, drop}
+use lib.ListN.{length, take, drop}
 use lib.Seq.{getD-take, length-take-le}
 use Rattle.sequences.specs.Lists.{first-at}
 use Rattle.sequences.proofs.Searches.{first-step, first-hit, first-end}
 use Rattle.model.specs.declared.tables.Thread.{Thread}
-use Rattle.model.specs.State.{absent-thread}
 use Rattle.table.proofs.entering.place_below.Statement.{statement}
 use Rattle.table.proofs.entering.place_below.Tie as tie
 
 abbrev below : List Thread → ℕ → ℕ → Bool
-below threads p x = ltb (getD threads x absent-thread .current) p
+below threads p x = ltb (thread-at threads x .current) p
 
 abbrev Inv-loop : tie.InvT-loop
 Inv-loop n p ids threads k₀ k = (k ≤ n) × (first-at (below threads p) (take n ids) ≡ k + first-at (below threads p) (drop k (take n ids)))
