@@ -5,10 +5,12 @@ use Prim.Native.Nat.{ℕ, zero, suc, _+_, _-_, _≤_, _<_}
 use native.Mathlib.Decide.{ℕ-discrete}
 use native.Mathlib.Numerals.{add-one}
 use native.Mathlib.Omega.{arith}
-use lib.ListN.{length, take, drop, set, getD, length-set, length-append, length-replicate, length-drop}
+use lib.ListN.{length, take, drop, set, getD, length-set, length-append, length-replicate, length-drop, getD-replicate}
 use lib.Seq.{paste, length-paste-head, take-suc-set, drop-set-lt, drop-drop, drop-cons, set-at, take-at, drop-at, take-take, take-add, take-suc, length-take-le}
-use lib.Seq.{getD-set-same, getD-set-other}
+use lib.Seq.{getD-set-same, getD-set-other, getD-drop}
 use Rattle.sequences.specs.Lists.{insert-at, remove-at, snoc, take-each}
+use Rattle.sequences.proofs.Bounds.{all-zero-from}
+use Rattle.sequences.proofs.Padding.{zeros-all-zero}
 use Rattle.sequences.proofs.Places.{insert-at-split, remove-at-split, take-each-at, take-each-set, length-take-each, alter-set}
 use Rattle.rows.specs.Row.{Row, Held, Rows, Changed, blanks}
 
@@ -37,7 +39,24 @@ held places n ids l e h k =
       list = ap (take n) e ∙ take-at l (blanks (places - n)) n h;
     }
 
+-- a row by its places
+pub row-from : {places n : ℕ} (ids : List ℕ) → length ids ≡ places → n ≤ places → ((k : ℕ) → n ≤ k → k < places → getD ids k 0 ≡ 0) → Row places ids n
+row-from {places} {n} ids size room zeros =
+    let rest : length (drop n ids) ≡ places - n = length-drop n ids ∙ ap (λ (m : ℕ). m - n) size in
+    record {
+      size = size;
+      room = room;
+      clear =
+          zeros-all-zero (drop n ids) (all-zero-from (drop n ids) (λ k h. getD-drop n ids k 0 ∙ zeros (n + k) (omega arith) (omega arith)))
+          ∙ ap blanks rest;
+    }
+
 module _ {places : ℕ} {ids : List ℕ} {n : ℕ} (w : Row places ids n) where
+  pub zero-past : (k : ℕ) → n ≤ k → k < places → getD ids k 0 ≡ 0
+  zero-past k h i =
+      let at : n + (k - n) ≡ k = omega arith in
+      rw (← at, ← getD-drop n ids (k - n) 0, w .clear) (getD-replicate (places - n) (k - n) 0 0 (omega arith))
+
   pub length-held : length (take n ids) ≡ n
   length-held = length-take-le n ids (omega (arith, w .size, w .room))
 

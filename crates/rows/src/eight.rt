@@ -1,7 +1,7 @@
 // Eight rows, each with its length in an array beside them, which the caller writes anew. Each function is that of one row, at row p.
 ghost use mathlib.Core.Path.{_≡_};
 ghost use mathlib.Core.List.{[]};
-ghost use Prim.Native.Nat.{ℕ, _+_, _-_, _<_, _≤_};
+ghost use Prim.Native.Nat.{_+_, _-_, _<_, _≤_};
 ghost use lib.Dec.{eqb};
 ghost use lib.ListN.{getD};
 ghost use Rattle.sequences.specs.Lists.{snoc, insert-at, remove-at, first-at, take-each};

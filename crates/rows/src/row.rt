@@ -1,9 +1,8 @@
 // One row: its first n places are a list of ids. Values go in and come out whole; there is one loop that copies and one that looks.
 ghost use mathlib.Core.Path.{_≡_};
-ghost use mathlib.Core.List.{[], _∷_};
-ghost use Prim.Native.Nat.{ℕ, _+_, _-_, _<_, _≤_};
+ghost use Prim.Native.Nat.{_+_, _-_, _<_, _≤_};
 ghost use lib.Dec.{eqb};
-ghost use lib.ListN.{length, take, drop};
+ghost use lib.ListN.{take, drop};
 ghost use lib.Seq.{paste};
 ghost use Rattle.sequences.specs.Lists.{snoc, insert-at, remove-at, first-at};
 ghost use Rattle.rows.specs.Row.{Row, Held};

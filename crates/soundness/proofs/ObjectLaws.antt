@@ -17,8 +17,9 @@ use Rattle.model.specs.Sound.{flags-in-range, absent-flags-zero}
 use Rattle.model.specs.Layout.{Rows, ids-of, view, list-at, thread-at}
 use Rattle.soundness.specs.Lists.{wait-list-fits}
 use Rattle.soundness.specs.Records.{semaphore-fits, mutex-fits, flags-fit}
+use Rattle.rows.proofs.Rows.{length-held}
 use Rattle.table.proofs.Views.{list-view}
-use Rattle.soundness.proofs.Fitting.{fitting-length}
+use Rattle.soundness.proofs.Fitting.{fitting}
 use Rattle.sequences.proofs.Bounds.{every-by-columns}
 use Rattle.soundness.specs.Shape.{Shape}
 
@@ -26,7 +27,7 @@ module _ (t : Table) (rows : Rows) (w : Shape t rows) (fit : every-below 18 (λ 
   pub list-length : (j : ℕ) → j < 18 → length (list j (view t rows)) ≡ list-at (t .waits) j .length
   list-length j h =
       let l = list-at (t .waits) j in
-      ap length (list-view t rows j) ∙ fitting-length (l .length) (l .ids) (every-below-at (λ j. wait-list-fits (list-at (t .waits) j)) 18 j h fit)
+      ap length (list-view t rows j) ∙ length-held (fitting (l .length) (l .ids) (every-below-at (λ j. wait-list-fits (list-at (t .waits) j)) 18 j h fit) .row)
 
   pub semaphores-by-clauses : every-below 8 (λ o. semaphore-fits (getD (t .semaphores) o absent-semaphore) (list-at (t .waits) (2 + o) .length))
       ≡ all-true

@@ -1,6 +1,6 @@
 -- The pass over the threads tests the clauses of soundness that speak of one thread: every thread passes all of its tests exactly where
 -- each of them passes for every thread, and the counts of lists say where a thread stands.
-use mathlib.Core.Path.{_≡_, refl, _∙_, ap}
+use mathlib.Core.Path.{_≡_, _∙_, ap}
 use mathlib.Core.Bool.{Bool, true, false, not, _&&_, _||_}
 use mathlib.Core.List.{List, [], _∷_, map}
 use Prim.Native.Nat.{ℕ, _+_, _<_}
@@ -16,14 +16,11 @@ use Rattle.model.specs.Sound.{thread-in-range, zero-thread, each-on-one-list, a
 use Rattle.model.specs.Sound.{others-maskless, waits-without-result, quanta-fit}
 use Rattle.model.specs.Layout.{Rows, view, thread-at}
 use Rattle.table.specs.Owners.{owns-one-of}
+use Rattle.table.proofs.ByArray.{owns-any-one-of}
 use Rattle.soundness.specs.Records.{thread-fits}
 use Rattle.soundness.specs.Shape.{Shape}
 use Rattle.sequences.proofs.Bounds.{every-by-columns}
 use Rattle.soundness.proofs.Positive.{not-positive}
-
-pub owns-any-one-of : (i : ℕ) (s : State) → owns-any i s ≡ owns-one-of (s .mutexes) i
-unfolding owns-any owns-one-of
-owns-any-one-of i s = refl
 
 -- who neither waits nor sleeps
 neither-zero : (a b : Bool) (n : ℕ) → (a || b) ≡ ltb 0 n → (not a && not b) ≡ eqb n 0

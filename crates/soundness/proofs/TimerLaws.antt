@@ -1,9 +1,9 @@
 -- The pass over the timers tests the clauses of soundness that speak of timers: every timer passes all of its tests exactly where each of
 -- them passes for every timer.
-use mathlib.Core.Path.{_≡_, refl}
+use mathlib.Core.Path.{_≡_}
 use mathlib.Core.Bool.{Bool, _&&_}
 use mathlib.Core.List.{List, [], _∷_, map}
-use Prim.Native.Nat.{ℕ, zero, suc}
+use Prim.Native.Nat.{ℕ}
 use lib.Dec.{eqb, leb}
 use lib.ListN.{getD}
 use Rattle.sequences.specs.Lists.{every, every-below, all-true}
@@ -14,15 +14,10 @@ use Rattle.model.specs.Ranges.{_implies_, names-object, action-in-range}
 use Rattle.model.specs.Sound.{timer-in-range, zero-timer, timers-within-period, unused-timers-zero, actions-fit}
 use Rattle.model.specs.Layout.{Rows, view}
 use Rattle.table.specs.Objects.{names-one-of}
+use Rattle.table.proofs.ByArray.{names-object-one-of}
 use Rattle.soundness.specs.Records.{timer-fits}
 use Rattle.soundness.specs.Shape.{Shape}
 use Rattle.sequences.proofs.Bounds.{every-by-columns}
-
-pub names-object-one-of : (kind object : ℕ) (s : State) → names-object kind object s ≡ names-one-of (s .semaphores) (s .flags) kind object
-names-object-one-of zero object s = refl
-names-object-one-of (suc zero) object s = refl
-names-object-one-of (suc (suc zero)) object s = refl
-names-object-one-of (suc (suc (suc kind))) object s = refl
 
 -- the tests of the clauses at one timer, but for its ranges
 abbrev tests : State → List (ℕ → Bool)

@@ -4,3 +4,4 @@ pub mod Ready
 pub mod Rooms
 pub mod Retaking
 pub mod Stored
+pub mod ByArray

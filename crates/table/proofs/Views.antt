@@ -91,20 +91,7 @@ pub stored-row : {t : Table} {rows : layout.Rows} → Orderly t rows → {p n : 
 unfolding view
 stored-row {t} {rows} w e =
     record {
-      order =
-          record {
-            table =
-                record {
-                  threads = w .table .threads;
-                  semaphores = w .table .semaphores;
-                  mutexes = w .table .mutexes;
-                  flags = w .table .flags;
-                  timers = w .table .timers;
-                  waits = w .table .waits;
-                  lists = w .table .lists;
-                };
-            ready = e .order;
-          };
+      order = record { table = w .table; ready = e .order };
       view = ap (λ (l : List (List ℕ)). with-ready l (view t rows)) (e .lists);
     }
 

@@ -5,6 +5,11 @@ use mathlib.Core.List.{List}
 use Prim.Native.Nat.{ℕ, _<_}
 use lib.ListN.{length, getD}
 use Rattle.rows.specs.Row.{Row, Rows, Held}
+use Rattle.model.specs.declared.tables.Thread.{Thread}
+use Rattle.model.specs.declared.tables.Semaphore.{Semaphore}
+use Rattle.model.specs.declared.tables.Mutex.{Mutex}
+use Rattle.model.specs.declared.tables.Flags.{Flags}
+use Rattle.model.specs.declared.tables.Timer.{Timer}
 use Rattle.model.specs.declared.tables.IdList.{IdList}
 use Rattle.model.specs.declared.tables.Table.{Table}
 use Rattle.model.specs.State.{State, thread-count, priority-count, semaphore-count, mutex-count, flags-count, timer-count, list-count, places}
@@ -16,15 +21,19 @@ use Rattle.placed.specs.Placed.{Placed}
 abbrev pub Listed : IdList → List ℕ → Type 0
 Listed l ids = Held places (l .ids) (l .length) ids
 
--- the table by itself: each array has its length, and each list is a row
-pub record OrderlyTable (t : Table) : Type 0 where
-  pub threads : length (t .threads) ≡ thread-count
-  pub semaphores : length (t .semaphores) ≡ semaphore-count
-  pub mutexes : length (t .mutexes) ≡ mutex-count
-  pub flags : length (t .flags) ≡ flags-count
-  pub timers : length (t .timers) ≡ timer-count
-  pub waits : length (t .waits) ≡ list-count
-  pub lists : (j : ℕ) → j < list-count → Row places (list-at (t .waits) j .ids) (list-at (t .waits) j .length)
+-- the table's arrays: each has its length, and each list is a row
+pub record Arrays (ts : List Thread) (ss : List Semaphore) (ms : List Mutex) (fs : List Flags) (rs : List Timer) (ls : List IdList) : Type 0 where
+  pub threads : length ts ≡ thread-count
+  pub semaphores : length ss ≡ semaphore-count
+  pub mutexes : length ms ≡ mutex-count
+  pub flags : length fs ≡ flags-count
+  pub timers : length rs ≡ timer-count
+  pub waits : length ls ≡ list-count
+  pub lists : (j : ℕ) → j < list-count → Row places (list-at ls j .ids) (list-at ls j .length)
+
+-- the table by itself; what it holds beside its arrays can't break the order
+abbrev pub OrderlyTable : Table → Type 0
+OrderlyTable t = Arrays (t .threads) (t .semaphores) (t .mutexes) (t .flags) (t .timers) (t .waits)
 
 pub record Orderly (t : Table) (rows : layout.Rows) : Type 0 where
   pub table : OrderlyTable t

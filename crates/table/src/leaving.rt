@@ -1,11 +1,9 @@
 // Leaving the list that a thread stands on.
 ghost use mathlib.Core.Path.{_≡_};
-ghost use mathlib.Core.Bool.{true, false};
+ghost use mathlib.Core.Bool.{true};
 ghost use mathlib.Core.List.{map};
-ghost use Prim.Native.Nat.{ℕ, _<_, _≤_};
-ghost use lib.ListN.{getD};
+ghost use Prim.Native.Nat.{_<_, _≤_};
 ghost use Rattle.sequences.specs.Lists.{alter, without, count, count-all};
-ghost use Rattle.model.specs.State.{absent-thread};
 ghost use Rattle.model.specs.Parts.{with-waits};
 ghost use Rattle.model.specs.Layout.{view, ids-of, list-at};
 ghost use Rattle.model.specs.Words.{is-ready, leave};

@@ -1,6 +1,6 @@
 // One stored list of ids: who stands on it, and the list with one more or one less.
 ghost use mathlib.Core.Path.{_≡_};
-ghost use Prim.Native.Nat.{ℕ, _<_, _≤_};
+ghost use Prim.Native.Nat.{_<_, _≤_};
 ghost use lib.ListN.{length};
 ghost use Rattle.sequences.specs.Lists.{snoc, insert-at, without, among, count};
 ghost use Rattle.rows.specs.Row.{Row};

@@ -1,6 +1,6 @@
 // A new current priority: who is ready goes behind all others of it, who waits is ranked anew, any other stays where it is; no change, no
 // move (01, Calls, on a changed priority).
-ghost use Prim.Native.Nat.{ℕ, _<_};
+ghost use Prim.Native.Nat.{_<_};
 ghost use mathlib.Core.Path.{_≡_};
 ghost use mathlib.Core.Bool.{true, false};
 ghost use Rattle.model.specs.Layout.{view};

@@ -1,8 +1,6 @@
 // A thread's record read, and written with all else as it was.
 ghost use mathlib.Core.Path.{_≡_};
-ghost use Prim.Native.Nat.{ℕ, _<_};
-ghost use lib.ListN.{getD};
-ghost use Rattle.model.specs.State.{absent-thread};
+ghost use Prim.Native.Nat.{_<_};
 ghost use Rattle.model.specs.Parts.{alter-thread, with-wait, with-current, refilled};
 ghost use Rattle.model.specs.Layout.{thread-at};
 ghost use Rattle.table.specs.Orderly.{OrderlyTable, Meets};

@@ -1,5 +1,5 @@
 // Ready, waiting, asleep, awake (01, Calls, the rules under the table).
-ghost use Prim.Native.Nat.{ℕ, _<_};
+ghost use Prim.Native.Nat.{_<_};
 ghost use Rattle.model.specs.Words.{become-ready, suspend, start-to-wait, start-to-sleep, wake};
 ghost use Rattle.table.specs.Orderly.{Given, Does};
 use crate::entering;

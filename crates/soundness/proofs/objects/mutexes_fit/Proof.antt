@@ -16,7 +16,7 @@ use Rattle.model.specs.State.{absent-mutex}
 use Rattle.model.specs.Layout.{ids-of, list-at, thread-at}
 use Rattle.soundness.specs.Lists.{wait-list-fits}
 use Rattle.soundness.specs.Records.{mutex-fits}
-use Rattle.soundness.proofs.Fitting.{fitting-row}
+use Rattle.soundness.proofs.Fitting.{fitting}
 use Rattle.soundness.proofs.OwnerLaws.{mutex-fits-in-range}
 use Rattle.soundness.proofs.objects.mutexes_fit.Statement.{statement}
 use Rattle.soundness.proofs.objects.mutexes_fit.Tie as tie
@@ -42,7 +42,7 @@ holds-id-requires c κs =
     let s = c .before .before .before .before .before .before in
     let o = c .before .before .before .before .before .loop .o in
     let l = list-at (s .args .t3) (10 + o) in
-    fitting-row (l .length) (l .ids) (every-below-at (λ j. wait-list-fits (list-at (s .args .t3) j)) 18 (10 + o) (omega arith) (s .pre))
+    fitting (l .length) (l .ids) (every-below-at (λ j. wait-list-fits (list-at (s .args .t3) j)) 18 (10 + o) (omega arith) (s .pre)) .row
 
 loop-again : tie.Need-loop-again Inv-loop μ-loop
 loop-again c =

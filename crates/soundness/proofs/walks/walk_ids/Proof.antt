@@ -8,9 +8,10 @@ use borrow.Author.Needs.{needs}
 use native.Mathlib.Omega.{arith}
 use lib.ListN.{length, getD, take, length-take}
 use lib.Seq.{getD-take}
+use Rattle.rows.proofs.Rows.{length-held}
 use Rattle.sequences.proofs.Slices.{take-grown}
 use Rattle.soundness.specs.Lists.{Tallied, list-asks}
-use Rattle.soundness.proofs.Fitting.{id-in-range, fitting, fitting-length}
+use Rattle.soundness.proofs.Fitting.{id-in-range, fitting}
 use Rattle.soundness.proofs.Asking.{rest-asks, asks-all, asks-step, asks-end}
 use Rattle.soundness.proofs.Counting.{tallied-empty, tallied-id, tallied-most}
 use Rattle.soundness.proofs.walks.walk_ids.Statement.{statement}
@@ -55,7 +56,7 @@ loop-again c =
     let a = s .args in
     let w = fitting (a .n) (a .t2) (s .pre .0) in
     let h : l .k < length (a .t2) = omega arith in
-    let i : l .k < length (take (a .n) (a .t2)) = omega (arith, fitting-length (a .n) (a .t2) (s .pre .0)) in (
+    let i : l .k < length (take (a .n) (a .t2)) = omega (arith, length-held (fitting (a .n) (a .t2) (s .pre .0) .row)) in (
       search needs,
       l .inv .1
           ∙ rw (c .member-fits .ensures, ← getD-take (a .n) (a .t2) (l .k) 0 (c .before .before .loop-test .taken))
@@ -69,7 +70,7 @@ returns c =
     let l = c .before .loop in
     let a = s .args in
     let end : l .k ≡ a .n = omega arith in
-    let i : length (take (a .n) (a .t2)) ≤ l .k = omega (arith, fitting-length (a .n) (a .t2) (s .pre .0)) in
+    let i : length (take (a .n) (a .t2)) ≤ l .k = omega (arith, length-held (fitting (a .n) (a .t2) (s .pre .0) .row)) in
     record {
       found = sym (l .inv .1 ∙ asks-end (a .kind) (a .mark) (a .t4) (take (a .n) (a .t2)) (l .k) (l .before) (l .fits) i);
       tallied = rw (← end) (l .inv .2);

@@ -6,22 +6,7 @@ use Rattle.table.proofs.choosing.with_chosen.Tie as tie
 
 returns : tie.Need-returns
 unfolding view
-returns c =
-    let w = c .pre in
-    record {
-      order =
-          record {
-            threads = w .threads;
-            semaphores = w .semaphores;
-            mutexes = w .mutexes;
-            flags = w .flags;
-            timers = w .timers;
-            waits = w .waits;
-            lists = w .lists;
-          };
-      lengths = refl;
-      view = λ rows. refl;
-    }
+returns c = record { order = c .pre; lengths = refl; view = λ rows. refl }
 
 pub with-chosen-spec : {M : Type 1} → statement M
 with-chosen-spec = tie.close (tie.spec returns)
