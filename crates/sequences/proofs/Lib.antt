@@ -8,3 +8,10 @@ pub mod Highest
 pub mod Bounds
 pub mod Slices
 pub mod Order
+pub mod Members
+pub mod Stepped
+pub mod Jumping
+pub mod Parts
+pub mod Counters
+pub mod Stepping
+pub mod Changes

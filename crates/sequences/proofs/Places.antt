@@ -1,8 +1,8 @@
 -- One place of a list: an element changed, put in or taken out, also seen through a map or through rows with their lengths beside them.
 use mathlib.Core.Path.{_≡_, refl, sym, _∙_, ap}
 use mathlib.Core.List.{List, [], _∷_, _++_, map}
-use Prim.Native.Nat.{ℕ, zero, suc, _+_, _<_, _≤_}
-use native.Mathlib.Decide.{ℕ-discrete}
+use Prim.Native.Nat.{ℕ, zero, suc, _<_, _≤_}
+use native.Mathlib.Decide.{ℕ-discrete, decLt}
 use native.Mathlib.Omega.{arith}
 use lib.ListN.{length, take, drop, getD, set, List·getD-map}
 use lib.Seq.{getD-set-same, getD-set-other}
@@ -45,6 +45,33 @@ module _ {A : Type 0} where
   alter-out g zero (x ∷ xs) h = absurd (omega arith)
   alter-out g (suc j) [] h = refl
   alter-out g (suc j) (x ∷ xs) h = ap (λ l. x ∷ l) (alter-out g j xs (omega arith))
+
+  -- two changes at a place are one
+  pub alter-twice : (f g : A → A) (j : ℕ) (l : List A) → alter j f (alter j g l) ≡ alter j (λ x. f (g x)) l
+  alter-twice f g zero [] = refl
+  alter-twice f g zero (x ∷ xs) = refl
+  alter-twice f g (suc j) [] = refl
+  alter-twice f g (suc j) (x ∷ xs) = ap (λ l. x ∷ l) (alter-twice f g j xs)
+
+  -- a change that changes nothing
+  pub alter-none : (g : A → A) (d : A) (j : ℕ) (l : List A) → g (getD l j d) ≡ getD l j d → alter j g l ≡ l
+  alter-none g d zero [] e = refl
+  alter-none g d zero (x ∷ xs) e = ap (λ y. y ∷ xs) e
+  alter-none g d (suc j) [] e = refl
+  alter-none g d (suc j) (x ∷ xs) e = ap (λ l. x ∷ l) (alter-none g d j xs e)
+
+  -- what holds at every place still does, where it holds of the changed element
+  pub alter-holds : (P : ℕ → A → Type 0) (g : A → A) (j : ℕ) (l : List A) (d : A)
+      → ((i : ℕ) → P i (getD l i d)) → P j (g (getD l j d)) → (i : ℕ) → P i (getD (alter j g l) i d)
+  alter-holds P g j l d all new i =
+      elim (ℕ-discrete i j) [
+        | yes e ↦ rw e (own (decLt j (length l)))
+        | no n ↦ rw (alter-other g j l i d n) (all i)
+      ]
+    where
+      own : Dec (j < length l) → P j (getD (alter j g l) j d)
+      own (yes h) = rw (alter-at g j l d h) new
+      own (no h) = rw (alter-out g j l (omega arith)) (all j)
 
   -- a store of the changed element, with no question about the place
   pub alter-set : (g : A → A) (d : A) (l : List A) (j : ℕ) → set l j (g (getD l j d)) ≡ alter j g l

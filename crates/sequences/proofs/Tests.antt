@@ -24,6 +24,10 @@ pub right : (a b : Bool) → a && b ≡ true → b ≡ true
 right true b h = h
 right false b h = let z : false ≡ true = h in cc
 
+pub neither : (a b : Bool) → a || b ≡ false → (a ≡ false) × (b ≡ false)
+neither true b h = let z : true ≡ false = h in (z, cc)
+neither false b h = (refl, h)
+
 pub same-truth : (a b : Bool) → (a ≡ true → b ≡ true) → (b ≡ true → a ≡ true) → a ≡ b
 same-truth true b f g = sym (f refl)
 same-truth false true f g = g refl
@@ -33,6 +37,10 @@ same-truth false false f g = refl
 pub untrue : (b : Bool) → (b ≡ true → false ≡ true) → b ≡ false
 untrue true g = sym (g refl)
 untrue false g = refl
+
+pub or-right : (a b : Bool) → b ≡ true → a || b ≡ true
+or-right true b e = refl
+or-right false b e = e
 
 pub all-true-at : (l : List Bool) (k : ℕ) → all-true l ≡ true → getD l k true ≡ true
 all-true-at [] k h = refl
@@ -65,11 +73,39 @@ module _ (f : ℕ → Bool) where
   unfolding some-below
   some-below-grown n p q = rw (add-one, p, q)
 
+  pub some-below-from : (n k : ℕ) → k < n → f k ≡ true → some-below n f ≡ true
+  unfolding some-below
+  some-below-from zero k h e = absurd (omega arith)
+  some-below-from (suc n) k h e =
+      elim (ℕ-discrete k n) [
+        | yes s ↦ or-right (some-below n f) (f n) (rw (← s) e)
+        | no s ↦ rw (some-below-from n k (omega arith) e)
+      ]
+
+  pub some-below-false : (n k : ℕ) → k < n → some-below n f ≡ false → f k ≡ false
+  unfolding some-below
+  some-below-false zero k h e = absurd (omega arith)
+  some-below-false (suc n) k h e =
+      elim (ℕ-discrete k n) [
+        | yes s ↦ rw s (neither (some-below n f) (f n) e .1)
+        | no s ↦ some-below-false n k (omega arith) (neither (some-below n f) (f n) e .0)
+      ]
+
+  pub some-below-none : (n : ℕ) → ((k : ℕ) → k < n → f k ≡ false) → some-below n f ≡ false
+  unfolding some-below
+  some-below-none zero h = refl
+  some-below-none (suc n) h = rw (some-below-none n (λ k l. h k (omega arith)), h n (omega arith))
+
 pub every-below-same : (f g : ℕ → Bool) (n : ℕ) → ((k : ℕ) → k < n → f k ≡ g k) → every-below n f ≡ every-below n g
 every-below-same f g n h =
     same-truth (every-below n f) (every-below n g)
     (λ e. every-below-from g n (λ k l. sym (h k l) ∙ every-below-at f n k l e))
     (λ e. every-below-from f n (λ k l. h k l ∙ every-below-at g n k l e))
+
+pub some-below-same : (f g : ℕ → Bool) (n : ℕ) → ((k : ℕ) → k < n → f k ≡ g k) → some-below n f ≡ some-below n g
+unfolding some-below
+some-below-same f g zero h = refl
+some-below-same f g (suc n) h = rw (some-below-same f g n (λ k b. h k (omega arith)), h n (omega arith))
 
 pub every-below-both : (f g : ℕ → Bool) (n : ℕ) → every-below n (λ k. f k && g k) ≡ every-below n f && every-below n g
 every-below-both f g n =
