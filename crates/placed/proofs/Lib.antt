@@ -1,3 +1,4 @@
 pub mod Standing
 pub mod Leaving
+pub mod Entering
 pub mod Sounds

@@ -19,11 +19,11 @@ use Rattle.placed.specs.Placed.{Placed, standing}
 
 module _ (s : State) (whole : sound-but-choice s ≡ true) where
   -- the clauses that speak of it, by their places in the model's lists
-  clause : (k : ℕ) → getD (clauses s) k true ≡ true
+  pub clause : (k : ℕ) → getD (clauses s) k true ≡ true
   unfolding sound-but-choice
   clause k = all-true-at (clauses s) k whole
 
-  size : (k : ℕ) → getD (sizes s) k true ≡ true
+  pub size : (k : ℕ) → getD (sizes s) k true ≡ true
   unfolding clauses shaped
   size k = all-true-at (sizes s) k (clause 0)
 
@@ -33,7 +33,7 @@ module _ (s : State) (whole : sound-but-choice s ≡ true) where
   many-ready : length (s .ready) ≡ 8
   many-ready = eqb-true (length (s .ready)) 8 (size 5)
 
-  field : (k : ℕ) → getD (field-ranges s) k true ≡ true
+  pub field : (k : ℕ) → getD (field-ranges s) k true ≡ true
   unfolding clauses fields-in-range
   field k = all-true-at (field-ranges s) k (clause 1)
 

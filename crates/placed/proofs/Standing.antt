@@ -1,18 +1,19 @@
--- What follows from where threads stand: who is off all lists leaves room on each, and who leaves is off them. Leaving, and a change of
--- anything but current priorities, keep it.
-use mathlib.Core.Path.{_≡_, _∙_, ap}
-use mathlib.Core.List.{List, [], _∷_, map}
+-- What follows from where threads stand: who is off all lists leaves room on each, and who leaves is off them. Leaving keeps it, and so
+-- does a change of a record but for the current priority of who is ready.
+use mathlib.Core.Path.{_≡_, _∙_}
+use mathlib.Core.List.{List, _∷_}
 use Prim.Native.Nat.{ℕ, _<_, _≤_}
-use native.Mathlib.Decide.{ℕ-discrete, decLt}
+use native.Mathlib.Decide.{ℕ-discrete}
 use native.Mathlib.Omega.{arith}
 use borrow.Author.Tests.{eq-eqb, ne-eqb}
-use lib.ListN.{length, getD, length-map, List·getD-map}
-use Rattle.sequences.specs.Lists.{count, without}
-use Rattle.sequences.proofs.Counts.{count-all-at, count-without, count-all-gone, count-all-kept, few}
-use Rattle.sequences.proofs.Places.{length-alter, alter-keeps, alter-other, alter-at, alter-out}
+use lib.ListN.{length, length-map}
+use Rattle.sequences.specs.Lists.{count, count-all, without}
+use Rattle.sequences.proofs.Members.{counted-left}
+use Rattle.sequences.proofs.Counts.{count-all-at, count-all-gone, count-all-kept, few}
+use Rattle.sequences.proofs.Places.{length-alter, alter-keeps, alter-holds}
 use Rattle.model.specs.declared.tables.Thread.{Thread}
 use Rattle.model.specs.State.{State, absent-thread}
-use Rattle.model.specs.Parts.{thread, ready-list, list, alter-thread, with-current}
+use Rattle.model.specs.Parts.{thread, ready-list, list, alter-thread}
 use Rattle.model.specs.Words.{leave}
 use Rattle.placed.specs.Placed.{Placed, standing}
 
@@ -43,14 +44,9 @@ leave-placed i s w =
       waits = length-map (s .waits) (without i) ∙ w .waits;
       once = λ x. omega (arith, leave-fewer i s x, w .once x);
       known = λ x h. omega (arith, leave-fewer i s x, w .known x h);
-      level = λ p x h. w .level p x (still p x h);
+      level = λ p x h. w .level p x (counted-left i x p (s .ready) h);
       priorities = w .priorities;
     }
-  where
-    still : (p x : ℕ) → 0 < count x (getD (map (without i) (s .ready)) p []) → 0 < count x (getD (s .ready) p [])
-    still p x h =
-        let e : getD (map (without i) (s .ready)) p [] ≡ without i (getD (s .ready) p []) = List·getD-map (without i) (s .ready) p [] in
-        omega (arith, count-without i x (getD (s .ready) p []), rw e at h)
 
 -- ---- a thread's record changed, but for its current priority
 
@@ -69,30 +65,22 @@ alter-placed i g s same w =
     still : (x : ℕ) → thread x (alter-thread i g s) .current ≡ thread x s .current
     still x = alter-keeps (λ (t : Thread). t .current) g same i (s .threads) x absent-thread
 
--- ---- a new current priority, for a thread off all lists
+-- ---- any change of the record of a thread that isn't ready
 
-pub current-placed : (i p : ℕ) (s : State) → p < 8 → standing i s ≡ 0 → Placed s → Placed (alter-thread i (with-current p) s)
-current-placed i p s below off w =
+pub unready-placed : (i : ℕ) (g : Thread → Thread) (s : State) → g (thread i s) .current < 8 → count-all i (s .ready) ≡ 0 → Placed s
+    → Placed (alter-thread i g s)
+unready-placed i g s below off w =
     record {
-      threads = length-alter i (with-current p) (s .threads) ∙ w .threads;
+      threads = length-alter i g (s .threads) ∙ w .threads;
       ready = w .ready;
       waits = w .waits;
       once = w .once;
       known = w .known;
-      level = λ q x h. same x (λ e. absurd (omega (arith, rw e at h, count-all-at i (s .ready) q))) ∙ w .level q x h;
-      priorities = λ x.
-          elim (ℕ-discrete x i) [
-            | yes e ↦ rw e (own (decLt i (length (s .threads))))
-            | no n ↦ rw (same x n) (w .priorities x)
-          ];
+      level = λ p.
+          alter-holds (λ x t. 0 < count x (ready-list p s) → t .current ≡ p) g i (s .threads) absent-thread (w .level p)
+          (λ h. absurd (omega (arith, count-all-at i (s .ready) p)));
+      priorities = alter-holds (λ x t. t .current < 8) g i (s .threads) absent-thread (w .priorities) below;
     }
-  where
-    same : (x : ℕ) → (x ≡ i → ⊥) → thread x (alter-thread i (with-current p) s) .current ≡ thread x s .current
-    same x n = ap (λ (t : Thread). t .current) (alter-other (with-current p) i (s .threads) x absent-thread n)
-
-    own : Dec (i < length (s .threads)) → thread i (alter-thread i (with-current p) s) .current < 8
-    own (yes h) = rw (alter-at (with-current p) i (s .threads) absent-thread h) below
-    own (no h) = rw (alter-out (with-current p) i (s .threads) (omega arith)) (w .priorities i)
 
 -- ---- room
 

@@ -12,10 +12,11 @@ use Rattle.model.specs.Parts.{alter-thread, with-current}
 use Rattle.model.specs.Layout as layout
 use Rattle.model.specs.Layout.{view, ids-of, list-at}
 use Rattle.model.specs.Words.{is-ready, is-waiting, list-of, leave, become-ready, enter-ready, enter-by-priority, re-enter}
-use Rattle.placed.proofs.Standing.{leave-gone, leave-placed, current-placed}
+use Rattle.placed.proofs.Standing.{leave-gone, leave-placed, unready-placed}
 use Rattle.table.specs.Orderly.{Given, Meets, Does}
 use Rattle.table.proofs.Rooms.{Off, off-after}
 use Rattle.table.proofs.Views.{does, and-then, list-view}
+use Rattle.sequences.proofs.Parts.{none-counted}
 
 -- ---- the model's move, by where the thread stands
 
@@ -41,16 +42,14 @@ pub retaken-off : {t u v : Table} {rows after : layout.Rows} {i : ℕ} → Given
 retaken-off {t} {u} {v} {rows} {after} {i} g p below d m =
     let s = view t rows in
     off-after (and-then d (does after (d .order) m)) (g .thread)
-    (current-placed i p (leave i s) below (leave-gone i s) (leave-placed i s (g .placed)))
+    (unready-placed i (with-current p) (leave i s) below (omega (arith, leave-gone i s)) (leave-placed i s (g .placed)))
     (leave-gone i s)
 
 -- ---- off a list that is no ready list
 
 module _ {t : Table} {rows : layout.Rows} {i : ℕ} (g : Given t rows i) where
   pub not-ready : is-ready i (view t rows) ≡ false → count-all i (view t rows .ready) ≡ 0
-  not-ready h =
-      let n = count-all i (view t rows .ready) in
-      omega (arith, ltb-false 0 n (sym (among-any-count i (view t rows .ready)) ∙ h))
+  not-ready h = none-counted i (view t rows .ready) h
 
   pub once-on : (j : ℕ) → count i (ids-of (list-at (t .waits) j)) ≤ 1
   once-on j = rw (← list-view t rows j) (omega (arith, g .placed .once i, count-all-at i (view t rows .waits) j))
