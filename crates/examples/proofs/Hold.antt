@@ -6,7 +6,7 @@ use Rattle.sequences.specs.Lists.{every}
 use Rattle.model.specs.Sound.{sound}
 use Rattle.model.specs.Layout.{lay-table, lay-rows, sound-table}
 use Rattle.examples.proofs.Opened.{model}
-use Rattle.examples.specs.Probes.{look, steps-right, right, after-calls}
+use Rattle.examples.specs.Probes.{look, steps-right, right}
 use Rattle.examples.specs.Cases.{cases}
 use Rattle.examples.specs.Errors.{errors}
 use Rattle.examples.specs.Refusals.{refusals}
@@ -15,6 +15,7 @@ use Rattle.examples.specs.Ticks.{ticking}
 use Rattle.examples.specs.Edges.{edges}
 use Rattle.examples.specs.Replays.{plays-right, replays}
 use Rattle.examples.specs.Busy.{busy}
+use Rattle.examples.specs.Waits.{sound-waiting, waits}
 use Rattle.examples.specs.Damages.{breaks-only, break-each, damages, undamaged}
 use Rattle.examples.specs.Stored.{disorders, refused-stored}
 
@@ -23,7 +24,7 @@ unfolding model cases right steps-right look
 cases-hold = refl
 
 pub edges-hold : every right edges ≡ true
-unfolding model edges errors refusals effects ticking right steps-right look after-calls
+unfolding model edges errors refusals effects ticking right steps-right look
 edges-hold = refl
 
 pub replays-hold : every plays-right replays ≡ true
@@ -32,22 +33,26 @@ replays-hold = refl
 
 -- soundness: what is sound, and for each clause what breaks it and no other
 pub undamaged-sound : every sound undamaged ≡ true
-unfolding model undamaged busy after-calls
+unfolding model undamaged busy
 undamaged-sound = refl
 
+pub waits-sound : every sound-waiting waits ≡ true
+unfolding model waits sound-waiting
+waits-sound = refl
+
 pub damages-refused : every breaks-only damages ≡ true
-unfolding model damages breaks-only busy after-calls
+unfolding model damages breaks-only busy
 damages-refused = refl
 
 pub damages-complete : break-each damages ≡ true
-unfolding model damages break-each busy after-calls
+unfolding model damages break-each busy
 damages-complete = refl
 
 -- stored it is sound too, and a list out of order is refused
 pub busy-stored-sound : sound-table (lay-table busy) (lay-rows busy) ≡ true
-unfolding model busy after-calls
+unfolding model busy
 busy-stored-sound = refl
 
 pub disorders-refused : every refused-stored disorders ≡ true
-unfolding model disorders refused-stored busy after-calls
+unfolding model disorders refused-stored busy
 disorders-refused = refl

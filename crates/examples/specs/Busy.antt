@@ -1,13 +1,13 @@
 -- A sound table in which something of everything is going on, made by calls from a fresh one: waits of each kind, a raised owner, a
 -- sleeper, a stopped thread, a shared priority, timers. Damages.antt and Stored.antt break it in one place after another.
 use mathlib.Core.List.{[], _∷_}
-use Rattle.model.specs.State.{State, fresh}
+use Rattle.model.specs.State.{State}
+use Rattle.model.specs.Promises.{run}
 use Rattle.examples.specs.Asking.{create-thread, start, sleep, create-semaphore, pend, create-mutex, claim, create-flags, wait, start-timer, stop-timer}
-use Rattle.examples.specs.Probes.{after-calls}
 
 unfoldable pub busy : State
 busy =
-    after-calls fresh
+    run
     (create-semaphore 0 0 3
     ∷ create-semaphore 1 2 2
     ∷ create-mutex 0

@@ -10,3 +10,4 @@ pub mod Replays
 pub mod Busy
 pub mod Damages
 pub mod Stored
+pub mod Waits

@@ -79,8 +79,3 @@ steps-right s (x ∷ xs) =
 
 unfoldable pub right : Case → Bool
 right c = steps-right (c .from) (c .steps)
-
--- the table after some calls
-unfoldable pub after-calls : State → List Request → State
-after-calls s [] = s
-after-calls s (q ∷ qs) = after-calls (call s q .after) qs

@@ -3,8 +3,9 @@
 use mathlib.Core.List.{List, [], _∷_}
 use Rattle.model.specs.State.{fresh}
 use Rattle.model.specs.Parts.{with-clock, with-chosen, alter-mutex, with-owner}
+use Rattle.model.specs.Promises.{run}
 use Rattle.examples.specs.Asking.{ask, create-thread, start, stop, exit, yield, sleep, set-priority, set-quantum, create-semaphore, pend, post, create-mutex, claim, release, create-flags, wait, set, clear, start-timer, stop-timer, scheduling, advance}
-use Rattle.examples.specs.Probes.{Case, _is_, _gives_then_, end, answer, chosen, clock, wakeups, next, current, quantum, left, result, delivered, count, owner, depth, word, list-length, list-at, after-calls}
+use Rattle.examples.specs.Probes.{Case, _is_, _gives_then_, end, answer, chosen, clock, wakeups, next, current, quantum, left, result, delivered, count, owner, depth, word, list-length, list-at}
 
 unfoldable pub refusals : List Case
 refusals =
@@ -84,7 +85,7 @@ refusals =
     }
     -- a depth of 255 is full for its owner, and for another a mutex to wait for
     ∷ record {
-      from = alter-mutex 0 (with-owner 1 255) (after-calls fresh (create-thread 1 2 0 ∷ start 1 ∷ create-mutex 0 ∷ claim 0 0 ∷ []));
+      from = alter-mutex 0 (with-owner 1 255) (run (create-thread 1 2 0 ∷ start 1 ∷ create-mutex 0 ∷ claim 0 0 ∷ []));
       steps =
           claim 0 0 gives answer is 9 ∷ depth 0 is 255 ∷ [] then
           create-thread 2 3 0 gives answer is 0 ∷ [] then

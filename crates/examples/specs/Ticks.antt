@@ -3,8 +3,9 @@
 use mathlib.Core.List.{List, [], _∷_}
 use Rattle.model.specs.State.{fresh}
 use Rattle.model.specs.Parts.{alter-timer, with-time}
+use Rattle.model.specs.Promises.{run}
 use Rattle.examples.specs.Asking.{create-thread, start, yield, sleep, set-priority, create-semaphore, pend, create-flags, start-timer, stop-timer, scheduling, advance}
-use Rattle.examples.specs.Probes.{Case, _is_, _gives_then_, end, answer, chosen, clock, wakeups, next, left, count, word, timer-left, expiries, ready-length, ready-at, after-calls}
+use Rattle.examples.specs.Probes.{Case, _is_, _gives_then_, end, answer, chosen, clock, wakeups, next, left, count, word, timer-left, expiries, ready-length, ready-at}
 
 unfoldable pub ticking : List Case
 ticking =
@@ -78,7 +79,7 @@ ticking =
     }
     -- an expiry count goes round as the clock does
     ∷ record {
-      from = alter-timer 0 (with-time 1 4294967295) (after-calls fresh (start-timer 0 3 1 0 0 0 ∷ []));
+      from = alter-timer 0 (with-time 1 4294967295) (run (start-timer 0 3 1 0 0 0 ∷ []));
       steps =
           advance 1 gives answer is 0 ∷ expiries 0 is 0 ∷ timer-left 0 is 3 ∷ [] then
           advance 3 gives answer is 0 ∷ expiries 0 is 1 ∷ [] then

@@ -11,3 +11,4 @@ pub mod Time
 pub mod Kernel
 pub mod Layout
 pub mod Replay
+pub mod Promises

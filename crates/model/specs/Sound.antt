@@ -113,8 +113,11 @@ fields-in-range s = all-true (field-ranges s)
 unfoldable pub each-on-one-list : State → Bool
 each-on-one-list s = each-thread (λ i. eqb (count-all i (s .ready) + count-all i (s .waits)) (thread i s .created))
 
+abbrev pub thread-numbers : Thread → List ℕ
+thread-numbers t = t .created ∷ t .base ∷ t .current ∷ t .quantum ∷ t .left ∷ t .limit ∷ t .result ∷ t .mask ∷ t .mode ∷ t .delivered ∷ []
+
 abbrev pub zero-thread : Thread → Bool
-zero-thread t = all-zero (t .created ∷ t .base ∷ t .current ∷ t .quantum ∷ t .left ∷ t .limit ∷ t .result ∷ t .mask ∷ t .mode ∷ t .delivered ∷ [])
+zero-thread t = all-zero (thread-numbers t)
 
 unfoldable pub absent-threads-zero : State → Bool
 absent-threads-zero s = each-thread (λ i. eqb (thread i s .created) 0 implies zero-thread (thread i s))
@@ -163,8 +166,11 @@ flag-waiters-masked s = each-flags (λ o. every (λ i. ltb 0 (thread i s .mask) 
 unfoldable pub timers-within-period : State → Bool
 timers-within-period s = each-timer (λ o. leb (timer o s .left) (timer o s .period))
 
+abbrev pub timer-numbers : Timer → List ℕ
+timer-numbers t = t .period ∷ t .left ∷ t .repeat ∷ t .kind ∷ t .object ∷ t .mask ∷ t .count ∷ []
+
 abbrev pub zero-timer : Timer → Bool
-zero-timer t = all-zero (t .period ∷ t .left ∷ t .repeat ∷ t .kind ∷ t .object ∷ t .mask ∷ t .count ∷ [])
+zero-timer t = all-zero (timer-numbers t)
 
 unfoldable pub unused-timers-zero : State → Bool
 unused-timers-zero s = each-timer (λ o. eqb (timer o s .period) 0 implies zero-timer (timer o s))
