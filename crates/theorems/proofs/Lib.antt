@@ -1,0 +1,40 @@
+-- soundness but for the choice, clause by clause and as laws
+pub mod Readings
+pub mod Clauses
+pub mod Soundness
+-- what keeps a table lawful: moves, changed records, words
+pub mod Moves
+pub mod InPlace
+pub mod Records
+pub mod Fits
+pub mod Keeping
+pub mod Staying
+pub mod Priorities
+-- calls, ticks and the choice
+pub mod Choosing
+pub mod Passed
+pub mod Running
+pub mod Threads
+pub mod Semaphores
+pub mod Mutexes
+pub mod FlagObjects
+pub mod Timers
+pub mod Ticking
+pub mod Accepting
+pub mod Heads
+pub mod Undisturbed
+-- many ticks at once
+pub mod Clock
+pub mod Turns
+pub mod Skips
+pub mod Quiet
+pub mod Counting
+pub mod Jumps
+-- answers
+pub mod Lowest
+pub mod Replies
+-- the demands
+pub mod Demand1
+pub mod Demand2
+pub mod Demand3
+pub mod Histories

@@ -1,0 +1,65 @@
+-- In a tick a timer or a limit runs out in its own turn exactly where it stood at 1 when the timers' or the limits' step began: the
+-- turns of lower ids leave it alone. An action changes no timer, and waking a thread changes no other thread's record.
+use mathlib.Core.Path.{_≡_, refl, ap, _∙_}
+use mathlib.Core.Bool.{Bool, true, false, cond}
+use mathlib.Core.List.{List, [], _∷_}
+use Prim.Native.Nat.{ℕ, zero, suc, _<_}
+use native.Mathlib.Omega.{arith}
+use lib.Dec.{eqb}
+use lib.ListN.{getD}
+use Rattle.sequences.specs.Steps.{in-order}
+use Rattle.sequences.proofs.Places.{alter-other}
+use Rattle.sequences.proofs.Stepped.{in-order-keeps}
+use Rattle.model.specs.declared.tables.Thread.{Thread}
+use Rattle.model.specs.declared.tables.Timer.{Timer}
+use Rattle.model.specs.State.{State, absent-thread, unused-timer}
+use Rattle.model.specs.Parts.{thread, timer}
+use Rattle.model.specs.Words.{leave, enter-ready, become-ready, wake}
+use Rattle.model.specs.Effects.{post-to, post-semaphore, wake-each, change-word, set-flags, act}
+use Rattle.model.specs.Tick.{timer-tick, limit-tick}
+
+-- either of two states has the same part
+cond-keeps : {A : Type 0} (part : State → A) (b : Bool) {x y : State} {a : A} → part x ≡ a → part y ≡ a → part (cond b x y) ≡ a
+cond-keeps part true p q = p
+cond-keeps part false p q = q
+
+-- ---- timers
+
+post-to-timers : (o : ℕ) (l : List ℕ) (s : State) → post-to o l s .timers ≡ s .timers
+unfolding post-to wake become-ready enter-ready leave
+post-to-timers o [] s = refl
+post-to-timers o (i ∷ l) s = refl
+
+wake-each-timers : (word : ℕ) (l : List ℕ) (s : State) → wake-each word l s .timers ≡ s .timers
+unfolding wake-each wake become-ready enter-ready leave
+wake-each-timers word [] s = refl
+wake-each-timers word (i ∷ l) s = wake-each-timers word l _
+
+pub act-timers : (kind object mask : ℕ) (s : State) → act kind object mask s .timers ≡ s .timers
+unfolding act post-semaphore set-flags change-word
+act-timers zero object mask s = refl
+act-timers (suc zero) object mask s = post-to-timers object _ s
+act-timers (suc (suc kind)) object mask s = wake-each-timers _ _ _
+
+timer-other : (o k : ℕ) → k < o → (s : State) → timer o (timer-tick k s) ≡ timer o s
+unfolding timer-tick
+timer-other o k below s =
+    cond-keeps (timer o) (eqb (timer k s .left) 1)
+    (ap (λ (l : List Timer). getD l o unused-timer) (act-timers (timer k s .kind) (timer k s .object) (timer k s .mask) _)
+    ∙ alter-other _ k (s .timers) o unused-timer (λ e. omega arith))
+    (alter-other _ k (s .timers) o unused-timer (λ e. omega arith))
+
+pub timer-turn : (o : ℕ) (s : State) → timer o (in-order o timer-tick s) ≡ timer o s
+timer-turn o = in-order-keeps timer-tick (timer o) o (timer-other o)
+
+-- ---- limits
+
+limit-other : (i k : ℕ) → k < i → (s : State) → thread i (limit-tick k s) ≡ thread i s
+unfolding limit-tick wake become-ready enter-ready leave
+limit-other i k below s =
+    cond-keeps (thread i) (eqb (thread k s .limit) 1)
+    (alter-other _ k (s .threads) i absent-thread (λ e. omega arith))
+    (alter-other _ k (s .threads) i absent-thread (λ e. omega arith))
+
+pub limit-turn : (i : ℕ) (s : State) → thread i (in-order i limit-tick s) .limit ≡ thread i s .limit
+limit-turn i s = ap (λ (t : Thread). t .limit) (in-order-keeps limit-tick (thread i) i (limit-other i) s)
