@@ -1,16 +1,14 @@
 -- Demand 3, in the model: an advance is its single ticks, advances add up, wake-ups are counted exactly, the next one named is the first to
 -- come, and before it nothing moves.
 use mathlib.Core.Path.{_≡_, refl, sym, _∙_, ap, ap₂, subst}
-use mathlib.Core.Bool.{Bool, true, false, cond, _||_, true≢false}
+use mathlib.Core.Bool.{Bool, true, cond, _||_, true≢false}
 use mathlib.Core.Logic.{_⊎_}
-use mathlib.Core.List.{List}
-use Prim.Native.Nat.{ℕ, zero, suc, _+_, _-_, _<_, _≤_}
+use Prim.Native.Nat.{ℕ, zero, suc, _+_, _<_, _≤_}
 use native.Mathlib.Nat.{add-zero}
 use native.Mathlib.Decide.{ℕ-discrete, decLt}
 use native.Mathlib.Omega.{arith}
 use borrow.Author.Tests.{leb-true, le-leb}
 use lib.Dec.{eqb}
-use lib.ListN.{getD}
 use Rattle.sequences.specs.Lists.{some-below, count-below}
 use Rattle.sequences.specs.Steps.{ticks, wakeups}
 use Rattle.sequences.proofs.Tests.{some-below-same}
@@ -20,13 +18,12 @@ use Rattle.model.specs.declared.answers.Answer.the-variants.{Done}
 use Rattle.model.specs.declared.answers.Report.{Report}
 use Rattle.model.specs.declared.requests.Request.{Request}
 use Rattle.model.specs.declared.tables.Timer.{Timer}
-use Rattle.model.specs.State.{State, unused-timer, timer-count, thread-count}
-use Rattle.model.specs.Parts.{thread, timer, alter-thread, with-left, refilled}
+use Rattle.model.specs.State.{State, timer-count, thread-count}
+use Rattle.model.specs.Parts.{thread, timer}
 use Rattle.model.specs.Ranges.{fits-32}
-use Rattle.model.specs.Words.{leave, enter-ready, become-ready}
 use Rattle.model.specs.Sound.{sound}
 use Rattle.model.specs.Calls.{calls, numbered, answers}
-use Rattle.model.specs.Tick.{clock-step, quantum-step, quantum-counts, quantum-ends, timer-ends, limit-ends, before-limits, tick, wakes}
+use Rattle.model.specs.Tick.{clock-step, quantum-counts, quantum-ends, timer-ends, limit-ends, before-limits, tick, wakes, wrap}
 use Rattle.model.specs.Time.{after-ticks, wakeups-in, Next, next}
 use Rattle.model.specs.Kernel.{Outcome, outcome, judge, answer, accept, perform, next-state, call}
 use Rattle.model.specs.Promises.{advancing, one-by-one, reported, quantum-reaches-zero, timer-reaches-zero, limit-reaches-zero}
@@ -34,9 +31,9 @@ use Rattle.theorems.specs.Skip.{still}
 use Rattle.theorems.proofs.Ticking.{tick-sound}
 use Rattle.theorems.proofs.Accepting.{ticks-sound}
 use Rattle.theorems.proofs.Clock.{next-clock}
-use Rattle.theorems.proofs.Turns.{timer-turn, limit-turn}
+use Rattle.theorems.proofs.Turns.{timer-found, limit-turn}
 use Rattle.theorems.proofs.Skips.{skip-stays}
-use Rattle.theorems.proofs.Jumps.{stilled, kernel, wakes-stilled, after-skip}
+use Rattle.theorems.proofs.Jumps.{stilled, kernel, after-stilled, wakes-stilled, after-skip}
 use Rattle.theorems.proofs.Demand1.{sound-reply}
 use Rattle.theorems.proofs.Demand2.{sound-call}
 
@@ -70,6 +67,10 @@ counted (suc n) s whole = ap₂ _+_ (one-report s whole) (ap (reported n) (one-t
 -- an advance by n is n advances by 1: the table with its clock and choice, and the wake-ups reported
 pub advance-by-ones : (s : State) → sound s ≡ true → (n : ℕ) → fits-32 n ≡ true → call s (advancing n) ≡ outcome Done (reported n s) (one-by-one n s)
 advance-by-ones s whole n fits = advance-done s whole n fits ∙ sym (ap₂ (outcome Done) (counted n s whole) (ticked n s whole))
+
+-- the clock moves by one wrapped sum
+pub clock-sum : (s : State) → sound s ≡ true → (n : ℕ) → after-ticks n s .clock ≡ wrap (s .clock + n)
+clock-sum s whole n = ap (λ (x : State). x .clock) (after-stilled s whole n)
 
 -- by a and then by b is by their sum
 pub advances-add : (s : State) → sound s ≡ true → (a b : ℕ) → fits-32 (a + b) ≡ true
@@ -106,17 +107,6 @@ pub wakeups-exactly : (s : State) → sound s ≡ true → (n : ℕ) → fits-32
     → call s (advancing n) .report .wakeups ≡ count-below n (λ k. wakes (after-ticks k s))
 wakeups-exactly s whole n fits = ap (λ (o : Outcome). o .report .wakeups) (advance-done s whole n fits) ∙ wakeups-counted tick wakes n s
 
-quantum-timers : (s : State) → quantum-step s .timers ≡ s .timers
-unfolding quantum-step become-ready enter-ready leave
-quantum-timers s = by-test (quantum-ends s) (quantum-counts s)
-  where
-    by-test : (a b : Bool)
-        → cond a (become-ready (s .chosen) (alter-thread (s .chosen) refilled s))
-        (cond b (alter-thread (s .chosen) (λ t. with-left (t .left - 1) t) s) s) .timers ≡ s .timers
-    by-test true b = refl
-    by-test false true = refl
-    by-test false false = refl
-
 -- a tick is one exactly where step 2, a timer or a limit reaches 0 in it, each at its turn
 pub wakes-exactly : (s : State)
     → wakes s ≡ quantum-reaches-zero s || some-below timer-count (λ o. timer-reaches-zero o s) || some-below thread-count (λ i. limit-reaches-zero i s)
@@ -124,9 +114,7 @@ unfolding wakes timer-ends limit-ends clock-step quantum-ends quantum-counts
 wakes-exactly s =
     ap₂ (λ (timers limits : Bool). quantum-ends s || timers || limits)
     (some-below-same (λ o. eqb (timer o s .left) 1) (λ o. timer-reaches-zero o s) timer-count
-    (λ o h.
-    ap (λ (t : Timer). eqb (t .left) 1)
-    (sym (timer-turn o (quantum-step (clock-step s)) ∙ ap (λ (ts : List Timer). getD ts o unused-timer) (quantum-timers (clock-step s))))))
+    (λ o h. ap (λ (t : Timer). eqb (t .left) 1) (sym (timer-found o s))))
     (some-below-same (λ i. eqb (thread i (before-limits s) .limit) 1) (λ i. limit-reaches-zero i s) thread-count
     (λ i h. ap (λ (n : ℕ). eqb n 1) (sym (limit-turn i (before-limits s)))))
 

@@ -16,7 +16,7 @@ use Rattle.model.specs.State.{State, absent-thread, unused-timer}
 use Rattle.model.specs.Parts.{thread, timer}
 use Rattle.model.specs.Words.{leave, enter-ready, become-ready, wake}
 use Rattle.model.specs.Effects.{post-to, post-semaphore, wake-each, change-word, set-flags, act}
-use Rattle.model.specs.Tick.{timer-tick, limit-tick}
+use Rattle.model.specs.Tick.{timer-tick, limit-tick, clock-step, quantum-counts, quantum-ends, quantum-step}
 
 -- either of two states has the same part
 cond-keeps : {A : Type 0} (part : State → A) (b : Bool) {x y : State} {a : A} → part x ≡ a → part y ≡ a → part (cond b x y) ≡ a
@@ -49,8 +49,18 @@ timer-other o k below s =
     ∙ alter-other _ k (s .timers) o unused-timer (λ e. omega arith))
     (alter-other _ k (s .timers) o unused-timer (λ e. omega arith))
 
-pub timer-turn : (o : ℕ) (s : State) → timer o (in-order o timer-tick s) ≡ timer o s
+timer-turn : (o : ℕ) (s : State) → timer o (in-order o timer-tick s) ≡ timer o s
 timer-turn o = in-order-keeps timer-tick (timer o) o (timer-other o)
+
+-- step 2 changes no timer either, so that in a tick a timer's turn finds what the tick began with
+quantum-timers : (s : State) → quantum-step s .timers ≡ s .timers
+unfolding quantum-step become-ready enter-ready leave
+quantum-timers s = cond-keeps (λ (x : State). x .timers) (quantum-ends s) refl (cond-keeps (λ (x : State). x .timers) (quantum-counts s) refl refl)
+
+pub timer-found : (o : ℕ) (s : State) → timer o (in-order o timer-tick (quantum-step (clock-step s))) ≡ timer o s
+unfolding clock-step
+timer-found o s =
+    timer-turn o (quantum-step (clock-step s)) ∙ ap (λ (ts : List Timer). getD ts o unused-timer) (quantum-timers (clock-step s))
 
 -- ---- limits
 
