@@ -12,7 +12,7 @@ use borrow.Author.Tests.{eqb-true, eq-eqb, ne-eqb}
 use lib.Dec.{eqb}
 use lib.ListN.{length, getD}
 use Rattle.sequences.specs.Lists.{nearer, nearest, some-below}
-use Rattle.sequences.specs.Steps.{Free}
+use Rattle.sequences.specs.Jumps.{Free}
 use Rattle.sequences.proofs.Tests.{same-truth}
 
 -- ---- at 1

@@ -1,17 +1,19 @@
+-- lists
 pub mod Tests
 pub mod Places
+pub mod Changes
 pub mod Searches
 pub mod Counts
+pub mod Members
+pub mod Parts
 pub mod Removal
 pub mod Padding
 pub mod Highest
 pub mod Bounds
 pub mod Slices
 pub mod Order
-pub mod Members
-pub mod Stepped
-pub mod Jumping
-pub mod Parts
+-- steps
+pub mod InOrder
+pub mod Repeating
 pub mod Counters
-pub mod Stepping
-pub mod Changes
+pub mod Jumping

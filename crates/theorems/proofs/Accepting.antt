@@ -3,7 +3,7 @@ use mathlib.Core.Path.{_≡_}
 use mathlib.Core.Bool.{Bool, true, false}
 use mathlib.Core.Option.{Option, none, some}
 use Prim.Native.Nat.{ℕ}
-use Rattle.sequences.proofs.Stepped.{ticks-keep}
+use Rattle.sequences.proofs.Repeating.{ticks-keep}
 use Rattle.model.specs.declared.requests.Request.{Request}
 use Rattle.model.specs.State.{State}
 use Rattle.model.specs.Words.{settle}

@@ -9,7 +9,8 @@ use native.Mathlib.Nat.{add-zero, mod-add-mod, mod-eq-of-lt, mod-lt}
 use native.Mathlib.Omega.{arith}
 use lib.Dec.{eqb}
 use Rattle.sequences.specs.Steps.{in-order, ticks, wakeups}
-use Rattle.sequences.proofs.Stepped.{ticks-image, wakeups-image, in-order-image}
+use Rattle.sequences.proofs.Repeating.{ticks-image, wakeups-image}
+use Rattle.sequences.proofs.InOrder.{in-order-image}
 use Rattle.model.specs.State.{State, scheduling-on, timer-count, thread-count}
 use Rattle.model.specs.Parts.{thread, timer, with-clock, alter-timer}
 use Rattle.model.specs.Words.{leave, enter-ready, become-ready, wake, settle, choice, choose}

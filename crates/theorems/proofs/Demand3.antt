@@ -12,7 +12,7 @@ use lib.Dec.{eqb}
 use Rattle.sequences.specs.Lists.{some-below, count-below}
 use Rattle.sequences.specs.Steps.{ticks, wakeups}
 use Rattle.sequences.proofs.Tests.{some-below-same}
-use Rattle.sequences.proofs.Stepped.{ticks-add, wakeups-add, wakeups-counted}
+use Rattle.sequences.proofs.Repeating.{ticks-add, wakeups-add, wakeups-counted}
 use Rattle.sequences.proofs.Jumping.{due-first, none-before, none-ever}
 use Rattle.model.specs.declared.answers.Answer.the-variants.{Done}
 use Rattle.model.specs.declared.answers.Report.{Report}

@@ -5,8 +5,8 @@ use mathlib.Core.Bool.{true}
 use Prim.Native.Nat.{ℕ, _+_, _<_, _^_}
 use native.Mathlib.Omega.{arith}
 use borrow.Author.Tests.{leb-true}
-use Rattle.sequences.specs.Steps.{ticks, Free}
-use Rattle.sequences.specs.Jumps.{Jump, Gone}
+use Rattle.sequences.specs.Steps.{ticks}
+use Rattle.sequences.specs.Jumps.{Jump, Gone, Free}
 use Rattle.sequences.proofs.Tests.{both, right}
 use Rattle.sequences.proofs.Jumping.{jump}
 use Rattle.model.specs.State.{State, nobody}

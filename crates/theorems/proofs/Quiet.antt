@@ -8,7 +8,7 @@ use borrow.Author.Tests.{eq-eqb}
 use lib.Dec.{eqb}
 use lib.ListN.{length}
 use Rattle.sequences.proofs.Places.{length-alter}
-use Rattle.sequences.proofs.Stepping.{in-order-map}
+use Rattle.sequences.proofs.InOrder.{in-order-map}
 use Rattle.sequences.proofs.Tests.{left, neither}
 use Rattle.model.specs.declared.tables.Thread.{Thread}
 use Rattle.model.specs.declared.tables.Timer.{Timer}

@@ -8,7 +8,7 @@ use native.Mathlib.Nat.{zero-sub, sub-zero, sub-add-eq}
 use lib.Dec.{leb, ltb}
 use lib.ListN.{length, getD}
 use Rattle.sequences.specs.Lists.{alter, nearer, nearest}
-use Rattle.sequences.specs.Steps.{Free}
+use Rattle.sequences.specs.Jumps.{Free}
 use Rattle.sequences.proofs.Places.{alter-keeps, alter-twice, alter-none}
 use Rattle.sequences.proofs.Changes.{alter-kept, map-keeps, alter-changes, alter-mapped}
 use Rattle.sequences.proofs.Counters.{less, nearer-free, nearer-less, nearest-less}

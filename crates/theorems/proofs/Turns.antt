@@ -9,7 +9,7 @@ use lib.Dec.{eqb}
 use lib.ListN.{getD}
 use Rattle.sequences.specs.Steps.{in-order}
 use Rattle.sequences.proofs.Places.{alter-other}
-use Rattle.sequences.proofs.Stepped.{in-order-keeps}
+use Rattle.sequences.proofs.InOrder.{in-order-keeps}
 use Rattle.model.specs.declared.tables.Thread.{Thread}
 use Rattle.model.specs.declared.tables.Timer.{Timer}
 use Rattle.model.specs.State.{State, absent-thread, unused-timer}

@@ -1,9 +1,9 @@
 -- Steps taken by number: where each changes its own place of a list, together they change all; and where a step does so only if a test
--- fails, so do steps of which none passes it, each finding its place as it was at the start.
+-- fails, so do steps of which none passes it, each finding its place as it was at the start. What each step keeps all of them keep.
 use mathlib.Core.Path.{_≡_, refl, _∙_, ap}
 use mathlib.Core.Bool.{Bool, false}
 use mathlib.Core.List.{List, [], _∷_, map}
-use Prim.Native.Nat.{ℕ, zero, suc, _≤_}
+use Prim.Native.Nat.{ℕ, zero, suc, _<_, _≤_}
 use native.Mathlib.Omega.{arith}
 use lib.ListN.{length, getD}
 use Rattle.sequences.specs.Lists.{alter, some-below}
@@ -53,3 +53,18 @@ module _ {A : Type 0} (g : A → A) where
     pub in-order-map : (n : ℕ) (l : List A) → length l ≤ n → some-below n (λ o. test (getD l o d)) ≡ false
         → in-order n step (holding l) ≡ holding (map g l)
     in-order-map n l h none = in-order-plain n l none ∙ ap holding (in-order-alter n l h)
+
+-- ---- steps and their images
+
+module _ {S T : Type 0} (f : ℕ → S → S) (h : S → T) where
+  pub in-order-image : (g : ℕ → T → T) (n : ℕ) → ((k : ℕ) → k < n → (s : S) → h (f k s) ≡ g k (h s)) → (s : S)
+      → h (in-order n f s) ≡ in-order n g (h s)
+  unfolding in-order
+  in-order-image g zero same s = refl
+  in-order-image g (suc n) same s = same n (omega arith) (in-order n f s) ∙ ap (g n) (in-order-image g n (λ k l. same k (omega arith)) s)
+
+  -- what none of them changes
+  pub in-order-keeps : (n : ℕ) → ((k : ℕ) → k < n → (s : S) → h (f k s) ≡ h s) → (s : S) → h (in-order n f s) ≡ h s
+  unfolding in-order
+  in-order-keeps zero same s = refl
+  in-order-keeps (suc n) same s = same n (omega arith) (in-order n f s) ∙ in-order-keeps n (λ k l. same k (omega arith)) s
