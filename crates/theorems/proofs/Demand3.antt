@@ -152,7 +152,7 @@ pub next-named : (s : State) (q : Request) → sound s ≡ true → Next (call s
 next-named s q whole =
     subst (Next (call s q .after)) (sym (ap (λ (r : Report). r .next) (sound-reply s q whole))) (next-first (call s q .after) (sound-call s q whole))
 
--- before it no list and no choice changes
+-- until then every list and the choice stay as they are
 pub nothing-moves : (s : State) → sound s ≡ true → (m : ℕ) → (next s ≡ 0) ⊎ (m < next s)
     → (after-ticks m s .ready ≡ s .ready) × (after-ticks m s .waits ≡ s .waits) × (after-ticks m s .chosen ≡ s .chosen)
 nothing-moves s whole m before =

@@ -1,5 +1,5 @@
--- The kernel's ticks can be jumped over where nothing is due, on the state with its clock at 0: what the theory of jumps asks, and what
--- it gives for ticks with their clock.
+-- The kernel's ticks can be jumped over where nothing is due, while the clock rests at 0: what the theory of jumps asks, and what it gives
+-- for ticks with their clock.
 use mathlib.Core.Path.{_≡_, refl, _∙_, ap, sym}
 use mathlib.Core.Bool.{true}
 use Prim.Native.Nat.{ℕ, _+_, _<_, _^_}

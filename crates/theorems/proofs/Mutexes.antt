@@ -28,9 +28,9 @@ use Rattle.theorems.specs.Lawful.{Lawful, Keeps, Steady, Unchosen}
 use Rattle.theorems.proofs.Readings.{there-below}
 use Rattle.theorems.proofs.Records.{mutex-lawful}
 use Rattle.theorems.proofs.Fits.{fits-wait}
-use Rattle.theorems.proofs.Keeping.{record-altered, not-absent, wake-lawful, start-to-wait-lawful, standing-there, new-current-lawful}
+use Rattle.theorems.proofs.Keeping.{record-altered, not-absent, wake-lawful, start-to-wait-lawful, standing-there}
 use Rattle.theorems.proofs.Staying.{keeps-both, wake-keeps, take-priority-keeps}
-use Rattle.theorems.proofs.Priorities.{take-priority-ready}
+use Rattle.theorems.proofs.Priorities.{take-priority-ready, new-current-lawful}
 use Rattle.theorems.proofs.Passed.{passed}
 use Rattle.theorems.proofs.Running.{kept, on-only, unset, running-ready, running-there, named, running-waits, done-lawful}
 

@@ -25,8 +25,9 @@ use Rattle.theorems.specs.Lawful.{ThreadFits, Idle, Lawful, Steady, Unch
 use Rattle.theorems.proofs.Readings.{there-below}
 use Rattle.theorems.proofs.Moves.{leave-lawful, absent-aside, aside-absent, aside-altered, enter-stopped-lawful}
 use Rattle.theorems.proofs.Fits.{fits-quantum}
-use Rattle.theorems.proofs.Keeping.{record-altered, not-absent, become-ready-lawful, start-to-sleep-lawful, altered-lawful, ready-idle, take-priority-lawful}
+use Rattle.theorems.proofs.Keeping.{record-altered, not-absent, become-ready-lawful, start-to-sleep-lawful, altered-lawful, ready-idle}
 use Rattle.theorems.proofs.Staying.{keeps-both, leave-keeps, become-ready-keeps, take-priority-keeps}
+use Rattle.theorems.proofs.Priorities.{take-priority-lawful}
 use Rattle.theorems.proofs.Passed.{passed}
 use Rattle.theorems.proofs.Running.{unset, kept, on-only, named, running-there, running-idle}
 

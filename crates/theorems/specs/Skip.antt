@@ -36,6 +36,6 @@ skip m s =
 abbrev pub still : State → State
 still s = with-clock 0 s
 
--- a tick on the state with its clock at 0
+-- a tick that leaves the clock at 0
 unfoldable pub still-tick : State → State
 still-tick s = still (tick s)
