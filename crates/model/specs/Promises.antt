@@ -4,9 +4,9 @@ use mathlib.Core.Bool.{Bool, true, false, cond, not, _&&_, _||_}
 use mathlib.Core.List.{List, [], _∷_}
 use mathlib.Core.Option.{Option, none, some}
 use Prim.Native.Nat.{ℕ, zero, suc, _+_}
-use lib.Dec.{eqb, ltb}
+use lib.Dec.{eqb, leb, ltb}
 use lib.ListN.{length}
-use Rattle.sequences.specs.Lists.{head-or, every-below, some-below}
+use Rattle.sequences.specs.Lists.{among, head-or, every-below, some-below}
 use Rattle.sequences.specs.Steps.{in-order}
 use Rattle.model.specs.declared.answers.Answer.the-variants.{Unsound, NoCall}
 use Rattle.model.specs.declared.requests.Request.{Request}
@@ -15,7 +15,7 @@ use Rattle.model.specs.Parts.{thread, timer, ready-list}
 use Rattle.model.specs.Ranges.{_implies_}
 use Rattle.model.specs.Sound.{sound}
 use Rattle.model.specs.Answers.{Given, _when_, number}
-use Rattle.model.specs.Calls.{Call, numbered, answers}
+use Rattle.model.specs.Calls.{Call, pend-waits, claim-waits, wait-waits, numbered, answers}
 use Rattle.model.specs.Tick.{clock-step, quantum-step, quantum-ends, timer-tick, limit-tick, before-limits}
 use Rattle.model.specs.Kernel.{call}
 
@@ -36,6 +36,22 @@ applies-in n (g ∷ gs) = (eqb (number (g .answer)) n && g .due) || applies-in n
 
 unfoldable pub applies : ℕ → State → Request → Bool
 applies n s q = applies-in n (rows s q)
+
+-- what 01 says of several calls at once, by their numbers: which there are; which need a running thread; which are refused with scheduling
+-- off, three of them always, a stop of the running thread, and those that would wait
+abbrev pub is-call : Request → Bool
+is-call q = ltb 0 (q .call) && leb (q .call) 22
+
+abbrev pub needs-running : Request → Bool
+needs-running q = among (q .call) (4 ∷ 5 ∷ 6 ∷ 10 ∷ 13 ∷ 14 ∷ 16 ∷ [])
+
+abbrev pub needs-scheduling : Request → State → Bool
+needs-scheduling q s =
+    among (q .call) (4 ∷ 5 ∷ 6 ∷ [])
+    || (eqb (q .call) 3 && eqb (q .id) (s .chosen))
+    || (eqb (q .call) 10 && pend-waits q s)
+    || (eqb (q .call) 13 && claim-waits q s)
+    || (eqb (q .call) 16 && wait-waits q s)
 
 -- ---- 2: who is chosen
 

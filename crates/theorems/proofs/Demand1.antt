@@ -13,12 +13,13 @@ use Rattle.model.specs.declared.requests.Request.{Request}
 use Rattle.model.specs.State.{State, nobody}
 use Rattle.model.specs.Sound.{sound}
 use Rattle.model.specs.Answers.{number, accepted, report}
-use Rattle.model.specs.Calls.{numbered}
+use Rattle.model.specs.Calls.{numbered, nobody-runs, scheduling-off}
 use Rattle.model.specs.Time.{next}
 use Rattle.model.specs.Kernel.{outcome, judge, answer, perform, next-state, call}
-use Rattle.model.specs.Promises.{applies}
+use Rattle.model.specs.Promises.{applies, rows, is-call, needs-running, needs-scheduling}
 use Rattle.theorems.proofs.Lowest.{lowest-exactly, lowest-done}
 use Rattle.theorems.proofs.Replies.{number-most, judge-other, reply-answer, reply-lowest, reply-told}
+use Rattle.theorems.proofs.ByNumber.{number-rows, running-rows, scheduling-rows}
 
 -- every call ends with an answer
 pub answered : (s : State) (q : Request) → number (call s q .report .answer) ≤ 10
@@ -34,6 +35,19 @@ given-exactly s q n = lowest-exactly (reply-lowest s q) (suc n) (omega arith)
 pub done-exactly : (s : State) (q : Request) → eqb (number (call s q .report .answer)) 0 ≡ every-below 11 (λ k. not (applies k s q))
 unfolding applies
 done-exactly s q = lowest-done (reply-lowest s q) 11 (omega (arith, answered s q))
+
+-- rows 2, 6 and 7, each over all calls
+pub number-row : (s : State) (q : Request) → applies 2 s q ≡ not (is-call q)
+unfolding applies rows
+number-row s q = number-rows q s (q .call)
+
+pub running-row : (s : State) (q : Request) → applies 6 s q ≡ needs-running q && nobody-runs s
+unfolding applies rows
+running-row s q = running-rows q s (q .call)
+
+pub scheduling-row : (s : State) (q : Request) → applies 7 s q ≡ scheduling-off s && needs-scheduling q s
+unfolding applies rows
+scheduling-row s q = scheduling-rows q s (q .call)
 
 -- 1 exactly where the table isn't sound
 pub unsound-exactly : (s : State) (q : Request) → eqb (number (call s q .report .answer)) 1 ≡ not (sound s)

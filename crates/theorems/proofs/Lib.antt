@@ -33,6 +33,7 @@ pub mod Jumps
 -- answers
 pub mod Lowest
 pub mod Replies
+pub mod ByNumber
 -- the demands
 pub mod Demand1
 pub mod Demand2
