@@ -7,7 +7,7 @@ use native.Mathlib.Omega.{arith}
 use borrow.Author.Tests.{eqb-true, eq-eqb}
 use lib.Dec.{eqb}
 use Rattle.sequences.specs.Lists.{count-all}
-use Rattle.sequences.proofs.Tests.{both, left, right, or-right, all-true-at}
+use Rattle.sequences.proofs.Tests.{both, left, right, or-right}
 use Rattle.sequences.proofs.Bounds.{all-zero-at}
 use Rattle.sequences.proofs.Parts.{any-counted, counted-any}
 use Rattle.sequences.proofs.Highest.{last-head}
@@ -15,12 +15,12 @@ use Rattle.model.specs.State.{State, scheduling-on, nobody}
 use Rattle.model.specs.Parts.{thread, with-chosen, alter-thread, with-left, refilled}
 use Rattle.model.specs.Ranges.{fits-16}
 use Rattle.model.specs.Words.{is-ready, choice, choose}
-use Rattle.model.specs.Sound.{thread-ranges, thread-in-range, thread-numbers, zero-thread, sound-but-choice, choice-fits, sound}
+use Rattle.model.specs.Sound.{thread-in-range, thread-numbers, zero-thread, sound-but-choice, choice-fits, sound}
 use Rattle.theorems.specs.Lawful.{Lawful, Stands, Steady, Unchosen}
+use Rattle.theorems.proofs.Fits.{fits-quantum, range}
 use Rattle.theorems.proofs.Clauses.{sound-lawful}
 use Rattle.theorems.proofs.Soundness.{lawful-sound}
 use Rattle.theorems.proofs.Records.{chosen-lawful}
-use Rattle.theorems.proofs.Fits.{fits-quantum}
 use Rattle.theorems.proofs.Keeping.{altered-lawful}
 
 -- ---- a sound table
@@ -48,6 +48,10 @@ chosen-choice s whole on = eqb-true (s .chosen) (choice s) (rw on at (right (sou
 
 -- ---- choosing
 
+-- with scheduling on or not, the choice being the one before or not
+abbrev picked : Bool → Bool → State → State
+picked on same s = cond (on && not same) (with-chosen (choice s) (alter-thread (choice s) refilled s)) s
+
 module _ (s : State) (w : Lawful nobody s) where
   -- who becomes the choice has its quantum anew; nobody has none
   renewed : Lawful nobody (alter-thread (choice s) refilled s)
@@ -60,7 +64,7 @@ module _ (s : State) (w : Lawful nobody s) where
       c = choice s
 
       most : fits-16 (thread c s .quantum) ≡ true
-      most = all-true-at (thread-ranges (thread c s)) 3 (w .threads c .in-range)
+      most = range (w .threads c) 3
 
       zeros : thread c s .created ≡ 0 → zero-thread (refilled (thread c s)) ≡ true
       zeros none =
@@ -82,16 +86,13 @@ pub choose-fits : (s : State) → (scheduling-on s ≡ false → Stands s) → c
 unfolding choose choice-fits
 choose-fits s stands = by-scheduling (scheduling-on s) refl (eqb (choice s) (s .chosen)) refl
   where
-    chosen : Bool → Bool → State
-    chosen a b = cond (a && not b) (with-chosen (choice s) (alter-thread (choice s) refilled s)) s
-
     standing-now : Stands s → eqb (s .chosen) nobody || is-ready (s .chosen) s ≡ true
     standing-now (inl e) = rw (eq-eqb (s .chosen) nobody e)
     standing-now (inr h) = or-right (eqb (s .chosen) nobody) (is-ready (s .chosen) s) (counted-any (s .chosen) (s .ready) h)
 
     by-scheduling : (a : Bool) → scheduling-on s ≡ a → (b : Bool) → eqb (choice s) (s .chosen) ≡ b
-        → cond (scheduling-on (chosen a b)) (eqb (chosen a b .chosen) (choice (chosen a b)))
-        (eqb (chosen a b .chosen) nobody || is-ready (chosen a b .chosen) (chosen a b)) ≡ true
+        → cond (scheduling-on (picked a b s)) (eqb (picked a b s .chosen) (choice (picked a b s)))
+        (eqb (picked a b s .chosen) nobody || is-ready (picked a b s .chosen) (picked a b s)) ≡ true
     by-scheduling true on true same = rw on (eq-eqb (s .chosen) (choice s) (sym (eqb-true (choice s) (s .chosen) same)))
     by-scheduling true on false other = rw on (eq-eqb (choice s) (choice s) refl)
     by-scheduling false off b e = rw off (standing-now (stands off))
@@ -104,12 +105,9 @@ pub choose-twice : (s : State) → choose (choose s) ≡ choose s
 unfolding choose
 choose-twice s = by-test (scheduling-on s) refl (eqb (choice s) (s .chosen)) refl
   where
-    chosen : Bool → Bool → State
-    chosen a b = cond (a && not b) (with-chosen (choice s) (alter-thread (choice s) refilled s)) s
-
     by-test : (a : Bool) → scheduling-on s ≡ a → (b : Bool) → eqb (choice s) (s .chosen) ≡ b
-        → cond (scheduling-on (chosen a b) && not (eqb (choice (chosen a b)) (chosen a b .chosen)))
-        (with-chosen (choice (chosen a b)) (alter-thread (choice (chosen a b)) refilled (chosen a b))) (chosen a b) ≡ chosen a b
+        → cond (scheduling-on (picked a b s) && not (eqb (choice (picked a b s)) (picked a b s .chosen)))
+        (with-chosen (choice (picked a b s)) (alter-thread (choice (picked a b s)) refilled (picked a b s))) (picked a b s) ≡ picked a b s
     by-test true on true same = rw (on, same)
     by-test true on false other = rw (on, eq-eqb (choice s) (choice s) refl)
     by-test false off b e = rw off

@@ -3,19 +3,18 @@
 use mathlib.Core.Path.{_≡_, refl}
 use mathlib.Core.Bool.{Bool, true, false, not}
 use Prim.Native.Nat.{ℕ, _+_, _≤_}
-use borrow.Author.Tests.{leb-true}
 use Rattle.sequences.specs.Lists.{count-all, every-below}
-use Rattle.sequences.proofs.Tests.{all-true-at}
 use Rattle.model.specs.declared.requests.Request.{Request}
 use Rattle.model.specs.State.{State, scheduling-on}
 use Rattle.model.specs.Parts.{thread}
 use Rattle.model.specs.Ranges.{_implies_}
-use Rattle.model.specs.Sound.{thread-ranges, thread-in-range, sound}
+use Rattle.model.specs.Sound.{thread-in-range, sound}
 use Rattle.model.specs.Answers.{accepted}
 use Rattle.model.specs.Calls.{numbered}
 use Rattle.model.specs.Tick.{tick}
 use Rattle.model.specs.Kernel.{judge, answer, perform, next-state, call}
 use Rattle.model.specs.Promises.{heads-highest, applies}
+use Rattle.theorems.proofs.Fits.{mark-most}
 use Rattle.theorems.proofs.Moves.{whole-once}
 use Rattle.theorems.proofs.Choosing.{sound-steady}
 use Rattle.theorems.proofs.Ticking.{tick-sound}
@@ -49,7 +48,7 @@ pub on-one-list : (s : State) → sound s ≡ true → (i : ℕ)
 unfolding thread-in-range
 on-one-list s whole i =
     let w = sound-steady s whole .lawful in
-    (whole-once s w i, leb-true (thread i s .created) 1 (all-true-at (thread-ranges (thread i s)) 0 (w .threads i .in-range)))
+    (whole-once s w i, mark-most (w .threads i))
 
 pub sound-call : (s : State) (q : Request) → sound s ≡ true → sound (call s q .after) ≡ true
 unfolding call next-state answer

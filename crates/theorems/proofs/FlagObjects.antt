@@ -26,9 +26,9 @@ use Rattle.model.specs.Answers.{accepted, first-due}
 use Rattle.model.specs.Calls.{answers, create-flags, wait, set, clear, nobody-runs, scheduling-off, unused-bcd, wait-waits}
 use Rattle.model.specs.Effects.{create-flags-effect, wait-effect, wake-each, met, change-word, set-flags, set-effect, clear-effect}
 use Rattle.theorems.specs.Lawful.{ThreadFits, Waiting, Lawful, Keeps, Steady, Unchosen}
+use Rattle.theorems.proofs.Fits.{fits-wait, fits-delivered, fits-result}
 use Rattle.theorems.proofs.Readings.{flags-below}
 use Rattle.theorems.proofs.Records.{flags-lawful}
-use Rattle.theorems.proofs.Fits.{fits-wait, fits-delivered, fits-result}
 use Rattle.theorems.proofs.Keeping.{not-absent, made-ready, start-to-wait-lawful, altered-lawful, standing-there}
 use Rattle.theorems.proofs.Staying.{keeps-none, keeps-both, made-ready-keeps}
 use Rattle.theorems.proofs.Passed.{passed}
@@ -53,7 +53,7 @@ told-lawful word i s w fits there =
     subst (Lawful nobody) (told-once word i s)
     (made-ready i s w there (answered word)
     (fits-wait (fits-delivered (w .threads i) word fits (not-absent there)) 0 1 0 0 refl refl refl refl (not-absent there))
-    (record { least = w .currents i .least; owners = w .currents i .owners }) there (record { limit = refl; mask = refl; mode = refl }))
+    (w .currents i) there (record { limit = refl; mask = refl; mode = refl }))
 
 told-keeps : (word i : ℕ) (s : State) → Lawful nobody s → Keeps s (told word i s)
 told-keeps word i s w = subst (Keeps s) (told-once word i s) (made-ready-keeps i s w (answered word) (λ t. refl))

@@ -5,13 +5,11 @@ use mathlib.Core.Bool.{true}
 use mathlib.Core.List.{List, [], map}
 use Prim.Native.Nat.{ℕ, _+_, _<_, _≤_}
 use native.Mathlib.Omega.{arith}
-use borrow.Author.Tests.{ltb-true}
 use lib.ListN.{getD}
 use Rattle.sequences.specs.Lists.{count, count-all, falls}
 use Rattle.sequences.proofs.Counts.{count-all-at}
 use Rattle.sequences.proofs.Members.{map-same}
 use Rattle.sequences.proofs.Places.{length-alter, alter-holds}
-use Rattle.sequences.proofs.Tests.{all-true-at}
 use Rattle.model.specs.declared.tables.Thread.{Thread}
 use Rattle.model.specs.declared.tables.Semaphore.{Semaphore}
 use Rattle.model.specs.declared.tables.Mutex.{Mutex}
@@ -19,13 +17,9 @@ use Rattle.model.specs.declared.tables.Flags.{Flags}
 use Rattle.model.specs.State.{State, absent-thread}
 use Rattle.model.specs.Parts.{thread, semaphore, mutex, flag-object, ready-list, list, alter-thread}
 use Rattle.model.specs.Words.{owns-any}
-use Rattle.model.specs.Sound.{thread-ranges, thread-in-range}
 use Rattle.placed.specs.Placed.{Placed}
 use Rattle.theorems.specs.Lawful.{ThreadFits, CurrentFits, Idle, Sleeping, Pending, Claiming, Awaiting, Each, Stays, Lawful}
-
-priority-fits : (t : Thread) → ThreadFits t → t .current < 8
-unfolding thread-in-range
-priority-fits t fits = ltb-true (t .current) 8 (all-true-at (thread-ranges t) 2 (fits .in-range))
+use Rattle.theorems.proofs.Fits.{current-below}
 
 module _ (k i : ℕ) (g : Thread → Thread) (s : State) (w : Lawful k s) (stays : Stays i (g (thread i s)) s) where
   abbrev after : State
@@ -96,9 +90,7 @@ module _ (k i : ℕ) (g : Thread → Thread) (s : State) (w : Lawful k s) (stays
 
   current : (x : ℕ) → CurrentFits x (thread x after) after
   unfolding owns-any
-  current x =
-      let fits = kept (λ x t. CurrentFits x t s) (w .currents) (stays .current) x in
-      record { least = fits .least; owners = fits .owners }
+  current = kept (λ x t. CurrentFits x t s) (w .currents) (stays .current)
 
   falling : (j : ℕ) → 2 ≤ j → falls (map (λ x. thread x after .current) (list j s)) ≡ true
   falling j from =
@@ -117,7 +109,7 @@ module _ (k i : ℕ) (g : Thread → Thread) (s : State) (w : Lawful k s) (stays
         level = λ p.
             kept (λ x t. 0 < count x (ready-list p s) → t .current ≡ p) (w .placed .level p)
             (λ h. stays .level (omega (arith, count-all-at i (s .ready) p)) ∙ w .placed .level p i h);
-        priorities = λ x. priority-fits (thread x after) (threads x);
+        priorities = λ x. current-below (threads x);
       }
 
   pub stays-lawful : Lawful k (alter-thread i g s)

@@ -18,10 +18,10 @@ use Rattle.model.specs.Words.{leave, become-ready, wake, suspend, start-to-wait
 use Rattle.placed.specs.Placed.{standing}
 use Rattle.placed.proofs.Leaving.{waiting-list}
 use Rattle.theorems.specs.Lawful.{ThreadFits, CurrentFits, Idle, Sleeping, Waiting, Lawful}
+use Rattle.theorems.proofs.Fits.{fits-wait}
 use Rattle.theorems.proofs.Readings.{there-below}
 use Rattle.theorems.proofs.Moves.{leave-lawful, aside-altered, enter-ready-lawful, enter-sleep-lawful, enter-wait-lawful, whole-once}
 use Rattle.theorems.proofs.InPlace.{stays-lawful}
-use Rattle.theorems.proofs.Fits.{fits-wait}
 
 -- ---- a thread that is there
 
@@ -38,7 +38,7 @@ not-absent there none = absurd (omega arith)
 pub suspended : (i : ℕ) (g : Thread → Thread) (s : State) → Lawful nobody s → ThreadFits (g (thread i s)) → CurrentFits i (g (thread i s)) s
     → (owns-any i s ≡ true → g (thread i s) .created ≡ 1) → Lawful i (leave i (alter-thread i g s))
 unfolding leave owns-any
-suspended i g s w fits current there = aside-altered i g (leave i s) (leave-lawful i s w) fits (record { least = current .least; owners = current .owners }) there
+suspended i g s w fits current there = aside-altered i g (leave i s) (leave-lawful i s w) fits current there
 
 module _ (i : ℕ) (s : State) (w : Lawful nobody s) (there : thread i s .created ≡ 1) where
   -- ---- ready
@@ -61,14 +61,14 @@ module _ (i : ℕ) (s : State) (w : Lawful nobody s) (there : thread i s .create
   unfolding wake
   wake-lawful result fits =
       made-ready (with-wait 0 result 0 0) (fits-wait (w .threads i) 0 result 0 0 refl fits refl refl (not-absent there))
-      (record { least = w .currents i .least; owners = w .currents i .owners }) there (record { limit = refl; mask = refl; mode = refl })
+      (w .currents i) there (record { limit = refl; mask = refl; mode = refl })
 
   -- ---- waiting and sleeping
 
   module _ (limit mask mode : ℕ) (fits : ThreadFits (with-wait limit 0 mask mode (thread i s))) where
     aside : Lawful i (leave i (alter-thread i (with-wait limit 0 mask mode) s))
     aside =
-        suspended i (with-wait limit 0 mask mode) s w fits (record { least = w .currents i .least; owners = w .currents i .owners }) (λ o. there)
+        suspended i (with-wait limit 0 mask mode) s w fits (w .currents i) (λ o. there)
 
     record-now : with-wait limit 0 mask mode (thread i s) ≡ thread i (alter-thread i (with-wait limit 0 mask mode) s)
     record-now = record-altered w i there (with-wait limit 0 mask mode)

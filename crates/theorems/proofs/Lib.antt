@@ -1,4 +1,5 @@
 -- soundness but for the choice, clause by clause and as laws
+pub mod Fits
 pub mod Readings
 pub mod Clauses
 pub mod Soundness
@@ -6,7 +7,6 @@ pub mod Soundness
 pub mod Moves
 pub mod InPlace
 pub mod Records
-pub mod Fits
 pub mod Keeping
 pub mod Staying
 pub mod Priorities

@@ -7,23 +7,23 @@ use mathlib.Core.List.{List, [], _∷_, map}
 use Prim.Native.Nat.{ℕ, _+_, _<_, _≤_}
 use native.Mathlib.Decide.{ℕ-discrete, decLt}
 use native.Mathlib.Omega.{arith}
-use borrow.Author.Tests.{eq-eqb, lt-ltb, ltb-true}
+use borrow.Author.Tests.{eq-eqb, lt-ltb}
 use lib.ListN.{length, getD, List·getD-eq-default, List·getD-map}
 use Rattle.sequences.specs.Lists.{alter, snoc, insert-at, count, count-all, without, falls}
 use Rattle.sequences.proofs.Counts.{count-one, count-other, count-all-at}
 use Rattle.sequences.proofs.Members.{counted-left, counted-put, map-same}
 use Rattle.sequences.proofs.Order.{falls-without, falls-insert}
 use Rattle.sequences.proofs.Places.{alter-at, alter-other, alter-holds}
-use Rattle.sequences.proofs.Tests.{both, all-true-at, some-below-from}
+use Rattle.sequences.proofs.Tests.{both, some-below-from}
 use Rattle.model.specs.declared.tables.Thread.{Thread}
 use Rattle.model.specs.State.{State, absent-thread, absent-mutex, nobody, sleep-list, stopped-list, priority-count, semaphore-count, mutex-count, flags-count}
-use Rattle.model.specs.Parts.{thread, semaphore, mutex, flag-object, list, with-ready, with-waits, with-threads, alter-thread}
+use Rattle.model.specs.Parts.{thread, semaphore, mutex, flag-object, list, with-ready, with-waits, alter-thread}
 use Rattle.model.specs.Words.{leave, enter-ready, enter-tail, enter-by-priority, rank, owns, owns-any}
-use Rattle.model.specs.Sound.{thread-in-range, thread-ranges}
 use Rattle.placed.specs.Placed.{Placed, standing}
 use Rattle.placed.proofs.Standing.{leave-gone, leave-kept, leave-placed, unready-placed}
 use Rattle.placed.proofs.Entering.{Puts, snoc-puts, insert-puts, put-standing, put-placed, enter-ready-standing, enter-ready-placed}
 use Rattle.theorems.specs.Lawful.{ThreadFits, CurrentFits, Idle, Sleeping, Pending, Claiming, Awaiting, Each, Waiting, Lawful}
+use Rattle.theorems.proofs.Fits.{current-below}
 use Rattle.theorems.proofs.Readings.{there-below}
 
 -- ---- what lists ask
@@ -49,12 +49,6 @@ module _ (ls : List (List ℕ)) (first many : ℕ) where
 
 -- ---- lists changed
 
--- who owns what isn't told by lists or threads
-current-fits : (i : ℕ) (t : Thread) (s : State) (ready waits : List (List ℕ)) (threads : List Thread) → CurrentFits i t s
-    → CurrentFits i t (with-ready ready (with-waits waits (with-threads threads s)))
-unfolding owns-any
-current-fits i t s ready waits threads c = record { least = c .least; owners = c .owners }
-
 absent-beyond : (i : ℕ) (s : State) → Placed s → 16 ≤ i → thread i s ≡ absent-thread
 absent-beyond i s w h = List·getD-eq-default (s .threads) absent-thread {n = i} (omega (arith, w .threads))
 
@@ -71,13 +65,14 @@ module _ (i k : ℕ) (ready waits : List (List ℕ)) (s : State) (w : Lawful i s
       → Each waits 10 mutex-count (λ o x. Claiming x (thread x s) (mutex o s))
       → Each waits 14 flags-count (λ o x. Awaiting (thread x s) (flag-object o s))
       → Lawful k (with-ready ready (with-waits waits s))
+  unfolding owns-any
   lists-lawful placed once apart falling readies sleepers stopped pending claiming awaiting =
       record {
         clock = w .clock;
         off = w .off;
         objects = w .objects;
         threads = w .threads;
-        currents = λ x. current-fits x (thread x s) s ready waits (s .threads) (w .currents x);
+        currents = w .currents;
         owners = w .owners;
         placed = placed;
         once = once;
@@ -145,26 +140,21 @@ owner-owns o s many owned =
       | no h ↦ absurd (omega (arith, rw (List·getD-eq-default (s .mutexes) absent-mutex {n = o} (omega (arith, many))) at owned))
     ]
 
-current-in-range : (t : Thread) → thread-in-range t ≡ true → t .current < 8
-unfolding thread-in-range
-current-in-range t h = ltb-true (t .current) 8 (all-true-at (thread-ranges t) 2 h)
-
 pub aside-altered : (i : ℕ) (g : Thread → Thread) (s : State) → Lawful i s → ThreadFits (g (thread i s)) → CurrentFits i (g (thread i s)) s
     → (owns-any i s ≡ true → g (thread i s) .created ≡ 1) → Lawful i (alter-thread i g s)
+unfolding owns-any
 aside-altered i g s w fits current there =
     record {
       clock = w .clock;
       off = w .off;
       objects = w .objects;
       threads = alter-holds (λ x t. ThreadFits t) g i (s .threads) absent-thread (w .threads) fits;
-      currents = λ x.
-          current-fits x (thread x (alter-thread i g s)) s (s .ready) (s .waits) (alter i g (s .threads))
-          (alter-holds (λ x t. CurrentFits x t s) g i (s .threads) absent-thread (w .currents) current x);
+      currents = alter-holds (λ x t. CurrentFits x t s) g i (s .threads) absent-thread (w .currents) current;
       owners = λ o h.
           alter-holds (λ x t. mutex o s .owner ≡ x → t .created ≡ 1) g i (s .threads) absent-thread
           (λ x e. rw (← e) (w .owners o h))
           (λ e. there (rw (← e) (owner-owns o s (w .objects .many-mutexes) h))) (mutex o s .owner) refl;
-      placed = unready-placed i g s (current-in-range (g (thread i s)) (fits .in-range)) not-ready (w .placed);
+      placed = unready-placed i g s (current-below fits) not-ready (w .placed);
       once = λ x n. rw (alter-other g i (s .threads) x absent-thread n) (w .once x n);
       apart = w .apart;
       falling = λ j h. rw (same-currents j) (w .falling j h);

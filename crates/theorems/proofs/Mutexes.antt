@@ -10,7 +10,7 @@ use native.Mathlib.Omega.{arith}
 use borrow.Author.Tests.{eqb-true, eqb-false, eq-eqb, ltb-true, lt-ltb, leb-true, leb-false, le-leb, not-true, not-false}
 use lib.Dec.{eqb, leb, ltb}
 use Rattle.sequences.specs.Lists.{count, without}
-use Rattle.sequences.proofs.Tests.{both, left, right, untrue, all-true-at, some-below-from}
+use Rattle.sequences.proofs.Tests.{both, left, right, untrue, some-below-from}
 use Rattle.sequences.proofs.Places.{alter-keeps}
 use Rattle.sequences.proofs.Counts.{count-all-at, count-all-gone}
 use Rattle.model.specs.declared.requests.Request.{Request}
@@ -20,14 +20,14 @@ use Rattle.model.specs.State.{State, nobody, absent-thread}
 use Rattle.model.specs.Parts.{thread, mutex, list, alter-thread, alter-mutex, with-ready, with-current, with-wait, with-result, with-owner}
 use Rattle.model.specs.Ranges.{is-bit, is-priority, fits-32}
 use Rattle.model.specs.Words.{leave, enter-ready, enter-by-priority, become-ready, wake, suspend, start-to-wait, take-priority, owns, owns-any}
-use Rattle.model.specs.Sound.{thread-ranges, thread-in-range, mutex-in-range}
+use Rattle.model.specs.Sound.{thread-in-range, mutex-in-range}
 use Rattle.model.specs.Answers.{accepted, first-due}
 use Rattle.model.specs.Calls.{create-mutex, claim, release, answers, nobody-runs, scheduling-off, unused-bcd, claim-waits}
 use Rattle.model.specs.Effects.{create-mutex-effect, raise, claim-effect, hand-over, fall, release-effect}
 use Rattle.theorems.specs.Lawful.{Lawful, Keeps, Steady, Unchosen}
+use Rattle.theorems.proofs.Fits.{fits-wait, range}
 use Rattle.theorems.proofs.Readings.{there-below}
 use Rattle.theorems.proofs.Records.{mutex-lawful}
-use Rattle.theorems.proofs.Fits.{fits-wait}
 use Rattle.theorems.proofs.Keeping.{record-altered, not-absent, wake-lawful, start-to-wait-lawful, standing-there}
 use Rattle.theorems.proofs.Staying.{keeps-both, wake-keeps, take-priority-keeps}
 use Rattle.theorems.proofs.Priorities.{take-priority-ready, new-current-lawful}
@@ -246,7 +246,7 @@ module _ (q : Request) (s : State) (steady : Steady s) where
       -- the last level
 
       base : is-priority (thread c s .base) ≡ true
-      base = all-true-at (thread-ranges (thread c s)) 1 (w .threads c .in-range)
+      base = range (w .threads c) 1
 
       fallen : State
       fallen = take-priority c (thread c s .base) s

@@ -11,19 +11,18 @@ use Rattle.sequences.specs.Lists.{count-all, count}
 use Rattle.sequences.proofs.Places.{alter-none, alter-twice}
 use Rattle.sequences.proofs.Removal.{map-without-none}
 use Rattle.sequences.proofs.Parts.{counted-any, any-counted, none-counted}
-use Rattle.sequences.proofs.Tests.{all-true-at}
 use Rattle.model.specs.declared.tables.Thread.{Thread}
 use Rattle.model.specs.State.{State, absent-thread, nobody}
 use Rattle.model.specs.Parts.{thread, with-threads, with-ready, with-waits, alter-thread, with-current, list, with-base}
 use Rattle.model.specs.Ranges.{is-priority}
 use Rattle.model.specs.Words.{leave, enter-ready, enter-by-priority, become-ready, is-ready, is-waiting, list-of, re-enter, take-priority}
 use Rattle.model.specs.Words.{leave, enter-by-priority, become-ready, is-ready, is-waiting, list-of, re-enter, take-priority, owns-any}
-use Rattle.model.specs.Sound.{thread-ranges, thread-in-range}
+use Rattle.model.specs.Sound.{thread-in-range}
 use Rattle.theorems.specs.Lawful.{ThreadFits, CurrentFits, Waiting, Lawful}
+use Rattle.theorems.proofs.Fits.{fits-base, fits-current, range}
 use Rattle.theorems.proofs.Readings.{waiting-there}
 use Rattle.theorems.proofs.Moves.{enter-wait-lawful}
 use Rattle.theorems.proofs.InPlace.{stays-lawful}
-use Rattle.theorems.proofs.Fits.{fits-base, fits-current}
 use Rattle.theorems.proofs.Keeping.{record-altered, not-absent, suspended, made-ready, ready-idle, waits-on, waiting-at}
 
 -- ---- a new base, and a current priority with the move that follows from it
@@ -134,7 +133,7 @@ unfolding thread-in-range
 new-current-lawful i p s w there high least owner =
     subst (λ (l : List Thread). Lawful nobody (take-priority i p (with-threads l s)))
     (alter-none (with-base (thread i s .base)) absent-thread i (s .threads) refl)
-    (take-priority-lawful i (thread i s .base) p s w there (all-true-at (thread-ranges (thread i s)) 1 (w .threads i .in-range)) high least owner)
+    (take-priority-lawful i (thread i s .base) p s w there (range (w .threads i) 1) high least owner)
 
 -- ---- a ready thread
 

@@ -1,6 +1,6 @@
 -- How the tests that soundness is made of are read: an implication, and where a thread stands, told by the list that counts it.
 use mathlib.Core.Path.{_≡_, refl, sym, _∙_, ap, subst}
-use mathlib.Core.Bool.{Bool, true, false, _||_}
+use mathlib.Core.Bool.{Bool, true, false}
 use Prim.Native.Nat.{ℕ, _+_, _-_, _<_, _≤_}
 use native.Mathlib.Decide.{ℕ-discrete, decLt}
 use native.Mathlib.Omega.{arith}
@@ -17,7 +17,7 @@ use Rattle.model.specs.Ranges.{_implies_}
 use Rattle.model.specs.Words.{is-waiting}
 use Rattle.placed.specs.Placed.{Placed, standing}
 
--- ---- an implication, a choice
+-- ---- an implication
 
 pub implied : (a b : Bool) → a implies b ≡ true → a ≡ true → b ≡ true
 implied true b h e = h
@@ -26,14 +26,6 @@ implied false b h e = let z : false ≡ true = e in cc
 pub implies-from : (a b : Bool) → (a ≡ true → b ≡ true) → a implies b ≡ true
 implies-from true b f = f refl
 implies-from false b f = refl
-
-pub or-from : (a b : Bool) → (a ≡ false → b ≡ true) → a || b ≡ true
-or-from true b f = refl
-or-from false b f = f refl
-
-pub or-cases : (a b : Bool) {Q : Type 0} → a || b ≡ true → (a ≡ true → Q) → (b ≡ true → Q) → Q
-or-cases true b h f g = f refl
-or-cases false b h f g = g h
 
 -- ---- the lists by number
 

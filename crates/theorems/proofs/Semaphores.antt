@@ -20,9 +20,9 @@ use Rattle.model.specs.Answers.{accepted, first-due}
 use Rattle.model.specs.Calls.{answers, nobody-runs, scheduling-off, pend-waits, create-semaphore, pend, post}
 use Rattle.model.specs.Effects.{create-semaphore-effect, pend-effect, one-more, post-to, post-semaphore, post-effect}
 use Rattle.theorems.specs.Lawful.{SemaphoreFits, Waiting, Lawful, Keeps, Steady, Unchosen}
+use Rattle.theorems.proofs.Fits.{fits-wait}
 use Rattle.theorems.proofs.Readings.{semaphore-below}
 use Rattle.theorems.proofs.Records.{semaphore-lawful}
-use Rattle.theorems.proofs.Fits.{fits-wait}
 use Rattle.theorems.proofs.Keeping.{not-absent, wake-lawful, start-to-wait-lawful, standing-there}
 use Rattle.theorems.proofs.Staying.{wake-keeps}
 use Rattle.theorems.proofs.Passed.{passed}
@@ -148,11 +148,8 @@ module _ (q : Request) (s : State) (steady : Steady s) where
       c : ℕ
       c = s .chosen
 
-      there : semaphore o s .created ≡ 1
-      there = named o 8 (semaphore o s .created) (not-false _ (passed (answers pend q s) 0 refl ok)) .1
-
-      below : o < 8
-      below = semaphore-below o s (w .objects .many-semaphores) there
+      given : (o < 8) × (semaphore o s .created ≡ 1)
+      given = named o 8 (semaphore o s .created) (not-false _ (passed (answers pend q s) 0 refl ok))
 
       runs : nobody-runs s ≡ false
       runs = passed (answers pend q s) 2 refl ok
@@ -165,16 +162,16 @@ module _ (q : Request) (s : State) (steady : Steady s) where
           record {
             pends = λ n h same.
                 let is : n ≡ o = omega arith in
-                rw is (record { result = refl; mask = refl; mode = refl; there = there; empty = eqb-true (semaphore o s .count) 0 e });
-            claims = λ n h same. absurd (omega (arith, below));
-            awaits = λ n h same. absurd (omega (arith, below));
+                rw is (record { result = refl; mask = refl; mode = refl; there = given .1; empty = eqb-true (semaphore o s .count) 0 e });
+            claims = λ n h same. absurd (omega (arith, given .0));
+            awaits = λ n h same. absurd (omega (arith, given .0));
           }
 
       taken : eqb (semaphore o s .count) 0 ≡ false → Lawful nobody (alter-semaphore o (λ x. with-count (x .count - 1) x) s)
       taken some =
-          semaphore-lawful nobody s w o (λ x. with-count (x .count - 1) x) below
-          (fits-count (w .objects .semaphores o) there (semaphore o s .count - 1) (omega (arith, w .objects .semaphores o .within)))
-          (λ h. h) (λ i on. absurd (eqb-false (semaphore o s .count) 0 some (w .pending o i below on .empty)))
+          semaphore-lawful nobody s w o (λ x. with-count (x .count - 1) x) (given .0)
+          (fits-count (w .objects .semaphores o) (given .1) (semaphore o s .count - 1) (omega (arith, w .objects .semaphores o .within)))
+          (λ h. h) (λ i on. absurd (eqb-false (semaphore o s .count) 0 some (w .pending o i (given .0) on .empty)))
 
       by-count : (b : Bool) → pend-waits q s ≡ b
           → Unchosen (cond b (start-to-wait (semaphore-list o) c (q .a) 0 0 s)
@@ -182,7 +179,7 @@ module _ (q : Request) (s : State) (steady : Steady s) where
       by-count true e =
           on-only s
           (start-to-wait-lawful c s w (running-there s steady runs) (q .a) 0 0
-          (fits-wait (w .threads c) (q .a) 0 0 0 limit refl refl refl (not-absent (running-there s steady runs))) (2 + o) (omega arith) (omega (arith, below)) (waiting e))
+          (fits-wait (w .threads c) (q .a) 0 0 0 limit refl refl refl (not-absent (running-there s steady runs))) (2 + o) (omega arith) (omega (arith, given .0)) (waiting e))
           refl (sym (and-true (scheduling-off s)) ∙ (rw e at (passed (answers pend q s) 3 refl ok)))
       by-count false e =
           kept steady (done-lawful c (alter-semaphore o (λ x. with-count (x .count - 1) x) s) (taken e) (running-ready s steady runs))

@@ -11,7 +11,7 @@ use lib.Dec.{eqb, ltb}
 use lib.ListN.{length, getD, drop}
 use lib.Seq.{getD-drop}
 use Rattle.sequences.specs.Lists.{among, count, count-all, every, all-zero}
-use Rattle.sequences.proofs.Tests.{both, left, right, untrue, all-true-at, every-from, every-below-from}
+use Rattle.sequences.proofs.Tests.{both, left, right, untrue, every-from, every-below-from, or-from, or-cases}
 use Rattle.sequences.proofs.Counts.{count-all-at, count-all-place}
 use Rattle.sequences.proofs.Bounds.{all-zero-at}
 use Rattle.sequences.proofs.Parts.{nonempty-counted, among-counted, counted-among, counted-below, every-if-counted, part-has}
@@ -20,7 +20,7 @@ use Rattle.model.specs.State.{State, absent-thread, absent-semaphore, absent-mu
 use Rattle.model.specs.Parts.{thread, semaphore, mutex, flag-object, timer, ready-list, list}
 use Rattle.model.specs.Ranges.{_implies_, names-object}
 use Rattle.model.specs.Words.{sleeps, is-waiting, awaits-flags, owns-any}
-use Rattle.model.specs.Sound.{shaped, thread-ranges, thread-in-range, semaphore-in-range, mutex-in-range, flags-in-range, timer-in-range, ids-in-range}
+use Rattle.model.specs.Sound.{shaped, thread-in-range, semaphore-in-range, mutex-in-range, flags-in-range, timer-in-range, ids-in-range}
 use Rattle.model.specs.Sound.{fields-in-range, thread-numbers, zero-thread, waited-for, each-on-one-list, absent-threads-zero, ready-by-priority, wait-lists-fall, currents-fit}
 use Rattle.model.specs.Sound.{awaited-semaphores-empty, counts-within-maximum, unowned-written-zero, awaited-mutexes-owned, owners-created, owners-wait-elsewhere}
 use Rattle.model.specs.Sound.{conditions-unmet, flag-waiters-masked, timers-within-period, unused-timers-zero, actions-fit}
@@ -28,7 +28,8 @@ use Rattle.model.specs.Sound.{sleepers-limited, others-unlimited, others-maskle
 use Rattle.model.specs.Sound.{absent-semaphores-zero, absent-mutexes-zero, absent-flags-zero, clauses, sound-but-choice}
 use Rattle.placed.specs.Placed.{standing}
 use Rattle.theorems.specs.Lawful.{Idle, Lawful}
-use Rattle.theorems.proofs.Readings.{implies-from, or-from, or-cases, by-list, standing-below, waiting-there, waiting-place, semaphore-below, flags-below}
+use Rattle.theorems.proofs.Fits.{range}
+use Rattle.theorems.proofs.Readings.{implies-from, by-list, standing-below, waiting-there, waiting-place, semaphore-below, flags-below}
 
 -- an object that isn't created is all zero, and nobody waits for it
 absent-clear : (created : ℕ) (zeros : Bool) (l : List ℕ) → (created ≡ 0 → zeros ≡ true) → ((x : ℕ) → 0 < count x l → created ≡ 1)
@@ -166,7 +167,7 @@ module _ (s : State) (w : Lawful nobody s) where
       every-below-from _ 4
       (λ o h.
       every-if-counted _ (list (14 + o) s)
-      (λ i c. both (lt-ltb 0 (thread i s .mask) (w .awaiting o i h c .mask)) (all-true-at (thread-ranges (thread i s)) 8 (w .threads i .in-range))))
+      (λ i c. both (lt-ltb 0 (thread i s .mask) (w .awaiting o i h c .mask)) (range (w .threads i) 8)))
 
   -- ---- timers
 

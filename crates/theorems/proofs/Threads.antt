@@ -7,7 +7,7 @@ use native.Mathlib.Omega.{arith}
 use borrow.Author.Tests.{eqb-false, ltb-true, lt-ltb, leb-false, not-false}
 use lib.Dec.{ltb}
 use Rattle.sequences.specs.Lists.{count, count-all}
-use Rattle.sequences.proofs.Tests.{both, left, right, all-true-at}
+use Rattle.sequences.proofs.Tests.{both, left, right}
 use Rattle.sequences.proofs.Places.{length-alter, alter-at}
 use Rattle.sequences.proofs.Counts.{among-count}
 use Rattle.sequences.proofs.Parts.{any-counted}
@@ -17,14 +17,14 @@ use Rattle.model.specs.State.{State, scheduling-on, nobody, absent-thread, stop
 use Rattle.model.specs.Parts.{thread, list, alter-thread, with-base, with-quantum}
 use Rattle.model.specs.Ranges.{is-priority, fits-16, fits-32, is-positive-32}
 use Rattle.model.specs.Words.{leave, enter-ready, enter-tail, become-ready, suspend, start-to-sleep, take-priority, owns-any}
-use Rattle.model.specs.Sound.{thread-ranges, thread-in-range}
+use Rattle.model.specs.Sound.{thread-in-range}
 use Rattle.model.specs.Answers.{accepted, first-due}
 use Rattle.model.specs.Calls.{answers, nobody-runs, unused-id, unused-bcd, unused-cd, create-thread, start, stop, exit, yield, sleep, set-priority, set-quantum}
 use Rattle.model.specs.Effects.{new-thread, new-current, create-thread-effect, start-effect, stop-effect, exit-effect, yield-effect, sleep-effect, set-priority-effect, set-quantum-effect}
 use Rattle.theorems.specs.Lawful.{ThreadFits, Idle, Lawful, Steady, Unchosen}
+use Rattle.theorems.proofs.Fits.{fits-quantum, range}
 use Rattle.theorems.proofs.Readings.{there-below}
 use Rattle.theorems.proofs.Moves.{leave-lawful, absent-aside, aside-absent, aside-altered, enter-stopped-lawful}
-use Rattle.theorems.proofs.Fits.{fits-quantum}
 use Rattle.theorems.proofs.Keeping.{record-altered, not-absent, become-ready-lawful, start-to-sleep-lawful, altered-lawful, ready-idle}
 use Rattle.theorems.proofs.Staying.{keeps-both, leave-keeps, become-ready-keeps, take-priority-keeps}
 use Rattle.theorems.proofs.Priorities.{take-priority-lawful}
@@ -59,7 +59,7 @@ module _ (q : Request) (s : State) (steady : Steady s) where
 
       none : thread (q .id) s .created ≡ 0
       none =
-          unset (thread (q .id) s .created) (all-true-at (thread-ranges (thread (q .id) s)) 0 (w .threads (q .id) .in-range))
+          unset (thread (q .id) s .created) (range (w .threads (q .id)) 0)
           (rw (lt-ltb (q .id) 16 below) at (passed (answers create-thread q s) 2 refl ok))
 
       now : thread (q .id) (alter-thread (q .id) (λ t. new-thread (q .a) (q .b)) s) ≡ new-thread (q .a) (q .b)

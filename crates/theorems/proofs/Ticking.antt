@@ -10,20 +10,20 @@ use lib.Dec.{eqb, leb, ltb}
 use lib.ListN.{length, getD}
 use Rattle.sequences.specs.Lists.{count, count-all}
 use Rattle.sequences.specs.Steps.{in-order}
-use Rattle.sequences.proofs.Tests.{left, right, all-true-at}
+use Rattle.sequences.proofs.Tests.{left, right}
 use Rattle.sequences.proofs.Bounds.{all-zero-at}
 use Rattle.model.specs.declared.tables.Timer.{Timer}
 use Rattle.model.specs.State.{State, scheduling-on, nobody}
 use Rattle.model.specs.Parts.{thread, timer, alter-thread, alter-timer, with-limit, with-left, with-time, refilled, ready-list}
 use Rattle.model.specs.Words.{become-ready, wake, sleeps, settle}
-use Rattle.model.specs.Sound.{thread-ranges, thread-in-range, thread-numbers, zero-thread, sound}
+use Rattle.model.specs.Sound.{thread-in-range, thread-numbers, zero-thread, sound}
 use Rattle.model.specs.Effects.{act}
 use Rattle.model.specs.Tick.{wrap, expired, clock-step, quantum-counts, quantum-ends, quantum-step, timer-tick, timer-step, limit-tick, limit-step, before-limits, tick}
 use Rattle.theorems.specs.Lawful.{Stays, Lawful, Keeps, Steady}
+use Rattle.theorems.proofs.Fits.{fits-quantum, fits-wait, range, mark-most}
 use Rattle.theorems.proofs.Readings.{there-below}
 use Rattle.theorems.proofs.InPlace.{stays-lawful}
 use Rattle.theorems.proofs.Records.{clock-lawful}
-use Rattle.theorems.proofs.Fits.{fits-quantum, fits-wait}
 use Rattle.theorems.proofs.Keeping.{not-absent, made-ready, wake-lawful, altered-lawful, ready-idle}
 use Rattle.theorems.proofs.Staying.{keeps-none, keeps-both, made-ready-keeps, wake-keeps}
 use Rattle.theorems.proofs.Choosing.{sound-steady, choose-sound}
@@ -47,7 +47,7 @@ in-order-steps (suc n) f each s w =
 not-absent-there : {k : ℕ} {s : State} → Lawful k s → (i n : ℕ) → 0 < getD (thread-numbers (thread i s)) n 0 → thread i s .created ≡ 1
 unfolding thread-in-range
 not-absent-there {k} {s} w i n some =
-    let bit = leb-true (thread i s .created) 1 (all-true-at (thread-ranges (thread i s)) 0 (w .threads i .in-range)) in
+    let bit = mark-most (w .threads i) in
     elim (ℕ-discrete (thread i s .created) 1) [
       | yes e ↦ e
       | no e ↦
@@ -79,17 +79,13 @@ module _ (s : State) (steady : Steady s) where
       absurd (omega (arith, there-below (w .placed) c (not-absent-there w c 3 (counts-quantum e)))))
       (λ (h : 0 < count-all c (s .ready)). h) (steady .stands)
 
-  range : (k : ℕ) → getD (thread-ranges (thread c s)) k true ≡ true
-  unfolding thread-in-range
-  range k = all-true-at (thread-ranges (thread c s)) k (w .threads c .in-range)
-
   ended : quantum-counts s ≡ true → Steps (λ x. become-ready c (alter-thread c refilled x)) s
   ended e =
       let there = not-absent-there w c 3 (counts-quantum e) in
       let idle = ready-idle w c (counts-ready e) in (
         made-ready c s w there refilled
-            (fits-quantum (w .threads c) (thread c s .quantum) (thread c s .quantum) (range 3) (range 3) (omega arith) (λ h. h) (not-absent there))
-            (record { least = w .currents c .least; owners = w .currents c .owners }) there
+            (fits-quantum (w .threads c) (thread c s .quantum) (thread c s .quantum) (range (w .threads c) 3) (range (w .threads c) 3) (omega arith) (λ h. h) (not-absent there))
+            (w .currents c) there
             (record { limit = idle .limit; mask = idle .mask; mode = idle .mode }),
         made-ready-keeps c s w refilled (λ t. refl),
       )
@@ -100,8 +96,8 @@ module _ (s : State) (steady : Steady s) where
       let some = w .threads c .some-left (counts-quantum e) in
       let two : 0 < thread c s .left - 1 = omega (arith, eqb-false (thread c s .left) 1 more) in (
         altered-lawful nobody c (λ t. with-left (t .left - 1) t) s w
-            (fits-quantum (w .threads c) (thread c s .quantum) (thread c s .left - 1) (range 3)
-            (le-leb (thread c s .left - 1) 65535 (omega (arith, leb-true (thread c s .left) 65535 (range 4)))) (omega (arith, w .threads c .within)) (λ h. two) (not-absent there))
+            (fits-quantum (w .threads c) (thread c s .quantum) (thread c s .left - 1) (range (w .threads c) 3)
+            (le-leb (thread c s .left - 1) 65535 (omega (arith, leb-true (thread c s .left) 65535 (range (w .threads c) 4)))) (omega (arith, w .threads c .within)) (λ h. two) (not-absent there))
             refl refl refl refl refl refl (λ h e. e),
         record { off = refl; chosen = refl; ready = λ x h. h },
       )
@@ -139,9 +135,6 @@ limit-steps : (i : ℕ) (s : State) → Lawful nobody s → Steps (limit-tick i)
 unfolding limit-tick thread-in-range
 limit-steps i s w = by-test (eqb (thread i s .limit) 1) refl
   where
-    range : (k : ℕ) → getD (thread-ranges (thread i s)) k true ≡ true
-    range k = all-true-at (thread-ranges (thread i s)) k (w .threads i .in-range)
-
     late : (b : Bool) → leb (cond b 1 2) 2 ≡ true
     late true = refl
     late false = refl
@@ -158,8 +151,8 @@ limit-steps i s w = by-test (eqb (thread i s .limit) 1) refl
         record {
           fits =
               fits-wait (w .threads i) (thread i s .limit - 1) (thread i s .result) (thread i s .mask) (thread i s .mode)
-              (le-leb (thread i s .limit - 1) 4294967295 (omega (arith, leb-true (thread i s .limit) 4294967295 (range 5)))) (range 6) (range 7) (range 8) zeros;
-          current = record { least = w .currents i .least; owners = w .currents i .owners };
+              (le-leb (thread i s .limit - 1) 4294967295 (omega (arith, leb-true (thread i s .limit) 4294967295 (range (w .threads i) 5)))) (range (w .threads i) 6) (range (w .threads i) 7) (range (w .threads i) 8) zeros;
+          current = w .currents i;
           created = refl;
           mask = refl;
           mode = refl;

@@ -2,7 +2,7 @@
 -- It says what `sound-but-choice` says, in the form in which words keep it. One thread may be aside: off all lists, as it is between
 -- leaving one and entering another; `nobody` is aside where the table is whole.
 use mathlib.Core.Path.{_≡_}
-use mathlib.Core.Bool.{true, false}
+use mathlib.Core.Bool.{Bool, true, false}
 use mathlib.Core.Logic.{_⊎_}
 use mathlib.Core.List.{List, [], map}
 use Prim.Native.Nat.{ℕ, _+_, _<_, _≤_}
@@ -104,10 +104,13 @@ Each lists first many P = (o x : ℕ) → o < many → 0 < count x (getD lists (
 
 -- ---- the whole
 
--- never below the base, and above it only for owners
-pub record CurrentFits (i : ℕ) (t : Thread) (s : State) : Type 0 where
-  pub least : t .base ≤ t .current
-  pub owners : owns-any i s ≡ false → t .current ≡ t .base
+-- a current priority is never below the base, and above it only for owners
+pub record Priorities (base current : ℕ) (owner : Bool) : Type 0 where
+  pub least : base ≤ current
+  pub owners : owner ≡ false → current ≡ base
+
+abbrev pub CurrentFits : ℕ → Thread → State → Type 0
+CurrentFits i t s = Priorities (t .base) (t .current) (owns-any i s)
 
 pub record Lawful (aside : ℕ) (s : State) : Type 0 where
   pub clock : fits-32 (s .clock) ≡ true
