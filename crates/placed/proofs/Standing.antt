@@ -48,6 +48,20 @@ leave-placed i s w =
       priorities = w .priorities;
     }
 
+-- ---- threads and lists as they were
+
+pub unmoved-placed : {s r : State} → r .threads ≡ s .threads → r .ready ≡ s .ready → r .waits ≡ s .waits → Placed s → Placed r
+unmoved-placed {s} {r} threads ready waits w =
+    record {
+      threads = rw threads (w .threads);
+      ready = rw ready (w .ready);
+      waits = rw waits (w .waits);
+      once = λ x. rw (ready, waits) (w .once x);
+      known = λ x h. rw (ready, waits) (w .known x h);
+      level = λ p x h. rw threads (w .level p x (rw ready at h));
+      priorities = λ x. rw threads (w .priorities x);
+    }
+
 -- ---- a thread's record changed, but for its current priority
 
 pub alter-placed : (i : ℕ) (g : Thread → Thread) (s : State) → ((t : Thread) → g t .current ≡ t .current) → Placed s → Placed (alter-thread i g s)

@@ -1,16 +1,17 @@
 -- Counters that run down together, and the least of those that run: a counter at 0 stands still. One of them is at 1 exactly where the
 -- least is, and while none reaches 0 the least runs with them.
 use mathlib.Core.Path.{_≡_, refl, sym, _∙_, ap}
-use mathlib.Core.Bool.{Bool, _||_, or-false, or-assoc}
+use mathlib.Core.Bool.{Bool, true, false, _&&_, _||_, or-false, or-assoc}
 use mathlib.Core.Logic.{inl, inr, ⊎-elim}
 use mathlib.Core.List.{List, [], _∷_, map}
-use Prim.Native.Nat.{ℕ, zero, suc, _-_, _<_, min}
+use Prim.Native.Nat.{ℕ, zero, suc, _-_, _<_, _≤_, min}
 use native.Mathlib.Nat.{zero-sub}
 use native.Mathlib.Decide.{ℕ-discrete}
 use native.Mathlib.Omega.{arith}
-use borrow.Author.Tests.{eqb-true, eq-eqb, ne-eqb}
-use lib.Dec.{eqb}
-use lib.ListN.{length, getD}
+use borrow.Author.Tests.{eqb-true, eq-eqb, ne-eqb, ltb-true, ltb-false, lt-ltb, le-ltb}
+use lib.Dec.{eqb, ltb}
+use lib.ListN.{length, getD, drop, drop-of-length-le}
+use lib.Seq.{drop-cons}
 use Rattle.sequences.specs.Lists.{nearer, nearest, some-below}
 use Rattle.sequences.specs.Jumps.{Free}
 use Rattle.sequences.proofs.Tests.{same-truth}
@@ -79,3 +80,31 @@ pub nearest-less : (m : ℕ) (l : List ℕ) → Free m (nearest l) → nearest (
 nearest-less m [] h = sym (zero-sub m)
 nearest-less m (x ∷ xs) h =
     ap (nearer (x - m)) (nearest-less m xs (nearer-free m x (nearest xs) h .1)) ∙ nearer-less m x (nearest xs) h
+
+-- ---- by a test, and one more at the front at a time
+
+-- of two that run, the test asks only which is less
+both-run : (a b : ℕ) → eqb (suc a) 0 || (ltb 0 (suc b) && ltb (suc b) (suc a)) ≡ ltb (suc b) (suc a)
+both-run a b = rw (ne-eqb (suc a) 0 (λ e. omega arith), lt-ltb 0 (suc b) (omega arith))
+
+pub nearer-second : (a b : ℕ) → eqb a 0 || (ltb 0 b && ltb b a) ≡ true → b ≡ nearer a b
+nearer-second zero b h = refl
+nearer-second (suc a) zero h = let z = rw (ne-eqb (suc a) 0 (λ e. omega arith), le-ltb 0 0 (omega arith)) at h in cc
+nearer-second (suc a) (suc b) h = omega (arith, ltb-true (suc b) (suc a) (sym (both-run a b) ∙ h))
+
+pub nearer-first : (a b : ℕ) → eqb a 0 || (ltb 0 b && ltb b a) ≡ false → a ≡ nearer a b
+nearer-first zero b h = let z : true ≡ false = h in cc
+nearer-first (suc a) zero h = refl
+nearer-first (suc a) (suc b) h = omega (arith, ltb-false (suc b) (suc a) (sym (both-run a b) ∙ h))
+
+-- the counters f of a list's elements, from its end down
+module _ {A : Type 0} (f : A → ℕ) (l : List A) where
+  pub nearest-end : (o : ℕ) → length l ≤ o → 0 ≡ nearest (map f (drop o l))
+  nearest-end o h = rw (drop-of-length-le l {i = o} h)
+
+  pub nearest-step : (d : A) (o least : ℕ) → 0 < o → o ≤ length l → least ≡ nearest (map f (drop o l))
+      → nearer (f (getD l (o - 1) d)) least ≡ nearest (map f (drop (o - 1) l))
+  nearest-step d o least a b e =
+      let up : suc (o - 1) ≡ o = omega arith in
+      ap (nearer (f (getD l (o - 1) d))) (e ∙ ap (λ (k : ℕ). nearest (map f (drop k l))) (sym up))
+      ∙ sym (ap (λ (k : List A). nearest (map f k)) (drop-cons l (o - 1) d (omega arith)))

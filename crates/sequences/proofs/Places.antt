@@ -80,9 +80,6 @@ module _ {A : Type 0} where
   alter-set g d (x ∷ xs) zero = refl
   alter-set g d (x ∷ xs) (suc j) = ap (λ l. x ∷ l) (alter-set g d xs j)
 
-  pub alter-stored : (g : A → A) (d : A) (l : List A) (j : ℕ) → alter j (λ (x : A). g (getD l j d)) l ≡ alter j g l
-  alter-stored g d l j = sym (alter-set (λ (x : A). g (getD l j d)) d l j) ∙ alter-set g d l j
-
   -- changes that do the same to the element at a place are the same there
   pub alter-alike : (g h : A → A) (d : A) (l : List A) (j : ℕ) → g (getD l j d) ≡ h (getD l j d) → alter j g l ≡ alter j h l
   alter-alike g h d l j e = sym (alter-set g d l j) ∙ ap (set l j) e ∙ alter-set h d l j

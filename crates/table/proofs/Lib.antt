@@ -1,4 +1,6 @@
 pub mod Views
+pub mod Rewriting
+pub mod StoredLists
 pub mod Finds
 pub mod Ready
 pub mod Rooms

@@ -1,22 +1,21 @@
 -- A new current priority between leaving and entering again is the model's change and then its move.
-use mathlib.Core.Path.{_≡_, sym, _∙_}
+use mathlib.Core.Path.{_≡_}
 use mathlib.Core.Bool.{true, false}
 use Prim.Native.Nat.{ℕ, _<_, _≤_}
 use native.Mathlib.Omega.{arith}
-use borrow.Author.Tests.{ltb-false}
 use Rattle.sequences.specs.Lists.{count, count-all}
-use Rattle.sequences.proofs.Counts.{among-any-count, count-all-at}
+use Rattle.sequences.proofs.Counts.{count-all-at}
+use Rattle.sequences.proofs.Parts.{none-counted}
 use Rattle.model.specs.declared.tables.Table.{Table}
 use Rattle.model.specs.State.{State}
 use Rattle.model.specs.Parts.{alter-thread, with-current}
+use Rattle.model.specs.Words.{is-ready, is-waiting, list-of, leave, become-ready, enter-ready, enter-by-priority, re-enter}
 use Rattle.model.specs.Layout as layout
 use Rattle.model.specs.Layout.{view, ids-of, list-at}
-use Rattle.model.specs.Words.{is-ready, is-waiting, list-of, leave, become-ready, enter-ready, enter-by-priority, re-enter}
 use Rattle.placed.proofs.Standing.{leave-gone, leave-placed, unready-placed}
 use Rattle.table.specs.Orderly.{Given, Meets, Does}
 use Rattle.table.proofs.Rooms.{Off, off-after}
 use Rattle.table.proofs.Views.{does, and-then, list-view}
-use Rattle.sequences.proofs.Parts.{none-counted}
 
 -- ---- the model's move, by where the thread stands
 

@@ -1,23 +1,20 @@
 -- Where threads stand as they must: ids in lists are threads', priorities are in range, and a thread off all lists finds room on each.
 use mathlib.Core.Path.{_≡_, refl, ap}
 use Prim.Native.Nat.{ℕ, _<_}
-use native.Mathlib.Decide.{decLt}
 use native.Mathlib.Omega.{arith}
 use lib.ListN.{length, getD}
-use lib.Seq.{getD-take}
-use Rattle.sequences.specs.Lists.{count}
-use Rattle.sequences.proofs.Counts.{count-there, count-all-at}
 use Rattle.rows.proofs.Rows.{length-held, length-at}
 use Rattle.model.specs.declared.tables.Table.{Table}
 use Rattle.model.specs.State.{State}
 use Rattle.model.specs.Parts.{list, alter-thread, with-wait}
 use Rattle.model.specs.Words.{suspend}
 use Rattle.model.specs.Layout as layout
-use Rattle.model.specs.Layout.{view, ids-of, list-at, thread-at}
+use Rattle.model.specs.Layout.{view, list-at, thread-at}
 use Rattle.placed.specs.Placed.{Placed, standing}
 use Rattle.placed.proofs.Standing.{room-ready, room-list, leave-gone, leave-placed, alter-placed}
 use Rattle.table.specs.Orderly.{Given, Ranked, Does}
 use Rattle.table.proofs.Views.{list-view}
+use Rattle.table.proofs.StoredLists.{listed-below}
 
 -- a table on which threads stand as they must, and this one stands on no list
 pub record Off (t : Table) (rows : layout.Rows) (i : ℕ) : Type 0 where
@@ -45,20 +42,8 @@ module _ {t : Table} {rows : layout.Rows} {i : ℕ} (w : Off t rows i) where
       omega (arith, room-list (w .given .placed) i (w .given .thread) (w .off) j, ap length (list-view t rows j), length-held (w .given .order .table .lists j h))
 
   pub ranked : (j : ℕ) → j < 18 → Ranked t j i
-  ranked j h = record { list = h; thread = w .given .thread; ids = below }
-    where
-      there : (k : ℕ) → k < list-at (t .waits) j .length → 0 < count (getD (list-at (t .waits) j .ids) k 0) (list j (view t rows))
-      there k l =
-          rw (list-view t rows j, ← getD-take (list-at (t .waits) j .length) (list-at (t .waits) j .ids) k 0 l)
-          (count-there (ids-of (list-at (t .waits) j)) k (omega (arith, length-held (w .given .order .table .lists j h))))
-
-      below : (k : ℕ) → k < list-at (t .waits) j .length → getD (list-at (t .waits) j .ids) k 0 < 16
-      below k l =
-          let x = getD (list-at (t .waits) j .ids) k 0 in
-          elim (decLt x 16) [
-            | yes s ↦ s
-            | no s ↦ absurd (omega (arith, there k l, count-all-at x (view t rows .waits) j, w .given .placed .known x (omega arith)))
-          ]
+  ranked j h =
+      record { list = h; thread = w .given .thread; ids = listed-below (record { order = w .given .order; placed = w .given .placed }) j h }
 
 -- who was suspended is off all lists
 pub suspended-off : {t r : Table} {rows after : layout.Rows} {i : ℕ} → Given t rows i → (limit mask mode : ℕ) → Does t rows (suspend i limit mask mode) r after → Off r after i

@@ -6,24 +6,41 @@ use native.Mathlib.Omega.{arith}
 use lib.Dec.{ltb}
 use lib.ListN.{length, set, length-set, List·getD-map}
 use Rattle.sequences.specs.Lists.{alter}
-use Rattle.sequences.proofs.Places.{alter-set, alter-stored, map-alter, every-set}
+use Rattle.sequences.proofs.Places.{alter-set, map-alter, every-set}
 use Rattle.sequences.proofs.Searches.{first-at-most}
 use Rattle.rows.specs.Row.{Row, Rows, Changed}
 use Rattle.rows.proofs.Rows.{length-held}
 use Rattle.model.specs.declared.tables.Thread.{Thread}
+use Rattle.model.specs.declared.tables.Semaphore.{Semaphore}
+use Rattle.model.specs.declared.tables.Mutex.{Mutex}
+use Rattle.model.specs.declared.tables.Flags.{Flags}
+use Rattle.model.specs.declared.tables.Timer.{Timer}
 use Rattle.model.specs.declared.tables.IdList.{IdList}
 use Rattle.model.specs.declared.tables.Table.{Table}
-use Rattle.model.specs.State.{State, absent-thread}
-use Rattle.model.specs.Parts.{thread, list, with-threads, with-waits, with-ready, alter-thread}
+use Rattle.model.specs.State.{State, absent-thread, absent-semaphore, absent-mutex, absent-flags, unused-timer}
+use Rattle.model.specs.Parts.{thread, list, with-threads, with-semaphores, with-mutexes, with-flags, with-timers, with-waits, with-ready}
+use Rattle.model.specs.Parts.{alter-thread, alter-semaphore, alter-mutex, alter-flags, alter-timer}
 use Rattle.model.specs.Words.{rank}
 use Rattle.model.specs.Layout as layout
-use Rattle.model.specs.Layout.{view, ids-of, no-ids, list-at, thread-at}
+use Rattle.model.specs.Layout.{view, ids-of, no-ids, list-at}
 use Rattle.table.specs.Orderly.{Listed, OrderlyTable, Orderly, Meets, Does}
 
 -- ---- the table with one part anew
 
 abbrev pub table-threads : List Thread → Table → Table
 table-threads x t = record { clock = t .clock; off = t .off; chosen = t .chosen; threads = x; semaphores = t .semaphores; mutexes = t .mutexes; flags = t .flags; timers = t .timers; lengths = t .lengths; waits = t .waits }
+
+abbrev pub table-semaphores : List Semaphore → Table → Table
+table-semaphores x t = record { clock = t .clock; off = t .off; chosen = t .chosen; threads = t .threads; semaphores = x; mutexes = t .mutexes; flags = t .flags; timers = t .timers; lengths = t .lengths; waits = t .waits }
+
+abbrev pub table-mutexes : List Mutex → Table → Table
+table-mutexes x t = record { clock = t .clock; off = t .off; chosen = t .chosen; threads = t .threads; semaphores = t .semaphores; mutexes = x; flags = t .flags; timers = t .timers; lengths = t .lengths; waits = t .waits }
+
+abbrev pub table-flags : List Flags → Table → Table
+table-flags x t = record { clock = t .clock; off = t .off; chosen = t .chosen; threads = t .threads; semaphores = t .semaphores; mutexes = t .mutexes; flags = x; timers = t .timers; lengths = t .lengths; waits = t .waits }
+
+abbrev pub table-timers : List Timer → Table → Table
+table-timers x t = record { clock = t .clock; off = t .off; chosen = t .chosen; threads = t .threads; semaphores = t .semaphores; mutexes = t .mutexes; flags = t .flags; timers = x; lengths = t .lengths; waits = t .waits }
 
 abbrev pub table-waits : List IdList → Table → Table
 table-waits x t = record { clock = t .clock; off = t .off; chosen = t .chosen; threads = t .threads; semaphores = t .semaphores; mutexes = t .mutexes; flags = t .flags; timers = t .timers; lengths = t .lengths; waits = x }
@@ -66,6 +83,42 @@ module _ (t : Table) (w : OrderlyTable t) where
         view = λ rows. ap (λ (l : List Thread). with-threads l (view t rows)) (alter-set (λ (y : Thread). x) absent-thread (t .threads) i);
       }
 
+  pub stored-semaphore : (o : ℕ) (x : Semaphore) → Meets t (alter-semaphore o (λ _. x)) (table-semaphores (set (t .semaphores) o x) t)
+  unfolding view
+  stored-semaphore o x =
+      record {
+        order = record { threads = w .threads; semaphores = length-set (t .semaphores) o x ∙ w .semaphores; mutexes = w .mutexes; flags = w .flags; timers = w .timers; waits = w .waits; lists = w .lists };
+        lengths = refl;
+        view = λ rows. ap (λ (l : List Semaphore). with-semaphores l (view t rows)) (alter-set (λ (y : Semaphore). x) absent-semaphore (t .semaphores) o);
+      }
+
+  pub stored-mutex : (o : ℕ) (x : Mutex) → Meets t (alter-mutex o (λ _. x)) (table-mutexes (set (t .mutexes) o x) t)
+  unfolding view
+  stored-mutex o x =
+      record {
+        order = record { threads = w .threads; semaphores = w .semaphores; mutexes = length-set (t .mutexes) o x ∙ w .mutexes; flags = w .flags; timers = w .timers; waits = w .waits; lists = w .lists };
+        lengths = refl;
+        view = λ rows. ap (λ (l : List Mutex). with-mutexes l (view t rows)) (alter-set (λ (y : Mutex). x) absent-mutex (t .mutexes) o);
+      }
+
+  pub stored-flags : (o : ℕ) (x : Flags) → Meets t (alter-flags o (λ _. x)) (table-flags (set (t .flags) o x) t)
+  unfolding view
+  stored-flags o x =
+      record {
+        order = record { threads = w .threads; semaphores = w .semaphores; mutexes = w .mutexes; flags = length-set (t .flags) o x ∙ w .flags; timers = w .timers; waits = w .waits; lists = w .lists };
+        lengths = refl;
+        view = λ rows. ap (λ (l : List Flags). with-flags l (view t rows)) (alter-set (λ (y : Flags). x) absent-flags (t .flags) o);
+      }
+
+  pub stored-timer : (o : ℕ) (x : Timer) → Meets t (alter-timer o (λ _. x)) (table-timers (set (t .timers) o x) t)
+  unfolding view
+  stored-timer o x =
+      record {
+        order = record { threads = w .threads; semaphores = w .semaphores; mutexes = w .mutexes; flags = w .flags; timers = length-set (t .timers) o x ∙ w .timers; waits = w .waits; lists = w .lists };
+        lengths = refl;
+        view = λ rows. ap (λ (l : List Timer). with-timers l (view t rows)) (alter-set (λ (y : Timer). x) unused-timer (t .timers) o);
+      }
+
   pub stored-list : (j : ℕ) → j < 18 → (l : IdList) (g : List ℕ → List ℕ) → Listed l (g (ids-of (list-at (t .waits) j)))
       → Meets t (λ s. with-waits (alter j g (s .waits)) s) (table-waits (set (t .waits) j l) t)
   unfolding view
@@ -93,18 +146,6 @@ stored-row {t} {rows} w e =
     record {
       order = record { table = w .table; ready = e .order };
       view = ap (λ (l : List (List ℕ)). with-ready l (view t rows)) (e .lists);
-    }
-
--- a record written is the record changed
-pub rewritten-thread : (t r : Table) (i : ℕ) (x : Thread) (g : Thread → Thread) → x ≡ g (thread-at (t .threads) i) → Meets t (alter-thread i (λ _. x)) r → Meets t (alter-thread i g) r
-unfolding view
-rewritten-thread t r i x g e m =
-    record {
-      order = m .order;
-      lengths = m .lengths;
-      view = λ rows.
-          m .view rows
-          ∙ ap (λ (l : List Thread). with-threads l (view t rows)) (ap (λ (x : Thread). alter i (λ (y : Thread). x) (t .threads)) e ∙ alter-stored g absent-thread (t .threads) i);
     }
 
 -- ---- one change after another

@@ -50,6 +50,11 @@ pub record Does (t : Table) (rows : layout.Rows) (f : State → State) (r : Tabl
   pub order : Orderly r after
   pub view : view r after ≡ f (view t rows)
 
+-- an orderly table on which threads stand as they must
+pub record Whole (t : Table) (rows : layout.Rows) : Type 0 where
+  pub order : Orderly t rows
+  pub placed : Placed (layout.view t rows)
+
 -- what a word about a thread asks: an orderly table on which threads stand as they must, and a thread's id
 pub record Given (t : Table) (rows : layout.Rows) (i : ℕ) : Type 0 where
   pub order : Orderly t rows

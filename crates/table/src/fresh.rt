@@ -45,7 +45,7 @@ fn unused_timer() -> Timer
     }
 }
 
-fn absent_semaphore() -> Semaphore
+pub fn absent_semaphore() -> Semaphore
     ensures { λ r. ⌜ r ≡ absent-semaphore ⌝ }
 {
     Semaphore {
@@ -55,7 +55,7 @@ fn absent_semaphore() -> Semaphore
     }
 }
 
-fn absent_mutex() -> Mutex
+pub fn absent_mutex() -> Mutex
     ensures { λ r. ⌜ r ≡ absent-mutex ⌝ }
 {
     Mutex {
@@ -65,7 +65,7 @@ fn absent_mutex() -> Mutex
     }
 }
 
-fn absent_flags() -> Flags
+pub fn absent_flags() -> Flags
     ensures { λ r. ⌜ r ≡ absent-flags ⌝ }
 {
     Flags {

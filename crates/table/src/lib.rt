@@ -9,6 +9,7 @@ pub mod lists;
 pub mod objects;
 pub mod owners;
 pub mod priorities;
+pub mod records;
 pub mod standing;
 pub mod threads;
 pub mod waking;

@@ -1,12 +1,30 @@
-// Which ids name an object that is there, and the rules for a timer's action (01, Calls, call 19). An id or a number may be any of 32 bits.
+// Which ids name a thread or an object that is there, what an id names, and the rules for a timer's action (01, Calls, call 19). An id or a
+// number may be any of 32 bits; what isn't there is all zero.
 ghost use mathlib.Core.Path.{_≡_};
+ghost use lib.ListN.{getD};
+ghost use Rattle.model.specs.State.{absent-semaphore, absent-mutex, absent-flags};
 ghost use Rattle.model.specs.Ranges.{action-in-range};
-ghost use Rattle.table.specs.Objects.{semaphore-there, flags-there, names-one-of};
+ghost use Rattle.table.specs.Objects.{thread-there, semaphore-there, mutex-there, flags-there, names-one-of};
+use crate::fresh;
 use model::actions::NOTHING;
 use model::actions::POST;
 use model::actions::SET_FLAGS;
 use model::tables::Flags;
+use model::tables::Mutex;
 use model::tables::Semaphore;
+use model::tables::Thread;
+
+pub fn thread_there(threads: [Thread; 16], i: u32) -> bool
+    ensures { λ r. ⌜ r ≡ thread-there threads i ⌝ }
+{
+    if i < 16 {
+        let k = i as usize;
+        let x = threads[k];
+        x.created == 1
+    } else {
+        false
+    }
+}
 
 pub fn semaphore_there(semaphores: [Semaphore; 8], o: u32) -> bool
     ensures { λ r. ⌜ r ≡ semaphore-there semaphores o ⌝ }
@@ -14,6 +32,18 @@ pub fn semaphore_there(semaphores: [Semaphore; 8], o: u32) -> bool
     if o < 8 {
         let i = o as usize;
         let x = semaphores[i];
+        x.created == 1
+    } else {
+        false
+    }
+}
+
+pub fn mutex_there(mutexes: [Mutex; 4], o: u32) -> bool
+    ensures { λ r. ⌜ r ≡ mutex-there mutexes o ⌝ }
+{
+    if o < 4 {
+        let i = o as usize;
+        let x = mutexes[i];
         x.created == 1
     } else {
         false
@@ -29,6 +59,39 @@ pub fn flags_there(flags: [Flags; 4], o: u32) -> bool
         x.created == 1
     } else {
         false
+    }
+}
+
+pub fn semaphore(semaphores: [Semaphore; 8], o: u32) -> Semaphore
+    ensures { λ r. ⌜ r ≡ getD semaphores o absent-semaphore ⌝ }
+{
+    if o < 8 {
+        let i = o as usize;
+        semaphores[i]
+    } else {
+        fresh::absent_semaphore()
+    }
+}
+
+pub fn mutex(mutexes: [Mutex; 4], o: u32) -> Mutex
+    ensures { λ r. ⌜ r ≡ getD mutexes o absent-mutex ⌝ }
+{
+    if o < 4 {
+        let i = o as usize;
+        mutexes[i]
+    } else {
+        fresh::absent_mutex()
+    }
+}
+
+pub fn flag_object(flags: [Flags; 4], o: u32) -> Flags
+    ensures { λ r. ⌜ r ≡ getD flags o absent-flags ⌝ }
+{
+    if o < 4 {
+        let i = o as usize;
+        flags[i]
+    } else {
+        fresh::absent_flags()
     }
 }
 

@@ -5,7 +5,7 @@ ghost use lib.Dec.{eqb, ltb};
 ghost use Rattle.table.specs.Owners.{owns-one-of};
 use model::tables::Mutex;
 
-fn owns(x: Mutex, i: u8) -> bool
+pub fn owns(x: Mutex, i: u8) -> bool
     ensures { λ r. ⌜ r ≡ (ltb 0 (x .depth) && eqb (x .owner) i) ⌝ }
 {
     (0 < x.depth) & (x.owner == i)

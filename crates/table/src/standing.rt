@@ -5,12 +5,14 @@ ghost use Prim.Native.Nat.{ℕ, _<_};
 ghost use lib.ListN.{getD};
 ghost use Rattle.sequences.specs.Lists.{among, first-at};
 ghost use Rattle.rows.specs.Row.{Row};
-ghost use Rattle.model.specs.Layout.{view, ids-of, no-ids};
-ghost use Rattle.model.specs.Words.{is-ready};
+ghost use Rattle.model.specs.Layout.{Rows, view, ids-of, no-ids};
+ghost use Rattle.model.specs.Words.{is-ready, is-stopped};
+ghost use Rattle.model.specs.Sound.{waited-for};
 ghost use Rattle.table.specs.Orderly.{OrderlyTable, Given};
 use crate::lists;
 use crate::threads;
 use model::lists::LIST_COUNT;
+use model::lists::STOPPED_LIST;
 use model::tables::IdList;
 use model::tables::Table;
 
@@ -47,4 +49,22 @@ pub fn list_of(t: Table, i: u8) -> usize
 {
     let waits = t.waits;
     first_with(waits, i)
+}
+
+pub fn is_stopped(t: Table, i: u8) -> bool
+    requires { ⌜ OrderlyTable t ⌝ }
+    ensures { λ r. ⌜ ((rows : Rows) → r ≡ is-stopped i (view t rows)) ⌝ }
+{
+    let l = t.waits[STOPPED_LIST];
+    lists::holds_id(l, i)
+}
+
+// Somebody stands on list j.
+pub fn waited_for(t: Table, j: usize) -> bool
+    requires { ⌜ OrderlyTable t ⌝ }
+    requires { ⌜ j < 18 ⌝ }
+    ensures { λ r. ⌜ ((rows : Rows) → r ≡ waited-for j (view t rows)) ⌝ }
+{
+    let l = t.waits[j];
+    0 < l.length
 }

@@ -1,7 +1,7 @@
 // A thread's record read, and written with all else as it was.
 ghost use mathlib.Core.Path.{_≡_};
 ghost use Prim.Native.Nat.{_<_};
-ghost use Rattle.model.specs.Parts.{alter-thread, with-wait, with-current, refilled};
+ghost use Rattle.model.specs.Parts.{alter-thread, with-base, with-current, with-quantum, with-wait, with-result, with-delivered, refilled};
 ghost use Rattle.model.specs.Layout.{thread-at};
 ghost use Rattle.table.specs.Orderly.{OrderlyTable, Meets};
 use model::tables::Table;
@@ -47,6 +47,48 @@ pub fn with_current(t: Table, i: u8, p: u8) -> Table
 {
     let mut x = thread(t, i);
     x.current = p;
+    with_thread(t, i, x)
+}
+
+pub fn with_base(t: Table, i: u8, p: u8) -> Table
+    requires { ⌜ OrderlyTable t ⌝ }
+    requires { ⌜ i < 16 ⌝ }
+    ensures { λ r. ⌜ Meets t (alter-thread i (with-base p)) r ⌝ }
+{
+    let mut x = thread(t, i);
+    x.base = p;
+    with_thread(t, i, x)
+}
+
+// A new quantum, all of it left.
+pub fn with_quantum(t: Table, i: u8, n: u16) -> Table
+    requires { ⌜ OrderlyTable t ⌝ }
+    requires { ⌜ i < 16 ⌝ }
+    ensures { λ r. ⌜ Meets t (alter-thread i (with-quantum n n)) r ⌝ }
+{
+    let mut x = thread(t, i);
+    x.quantum = n;
+    x.left = n;
+    with_thread(t, i, x)
+}
+
+pub fn with_result(t: Table, i: u8, result: u8) -> Table
+    requires { ⌜ OrderlyTable t ⌝ }
+    requires { ⌜ i < 16 ⌝ }
+    ensures { λ r. ⌜ Meets t (alter-thread i (with-result result)) r ⌝ }
+{
+    let mut x = thread(t, i);
+    x.result = result;
+    with_thread(t, i, x)
+}
+
+pub fn with_delivered(t: Table, i: u8, word: u16) -> Table
+    requires { ⌜ OrderlyTable t ⌝ }
+    requires { ⌜ i < 16 ⌝ }
+    ensures { λ r. ⌜ Meets t (alter-thread i (with-delivered word)) r ⌝ }
+{
+    let mut x = thread(t, i);
+    x.delivered = word;
     with_thread(t, i, x)
 }
 

@@ -3,10 +3,10 @@ use mathlib.Core.Path.{_≡_, refl}
 use mathlib.Core.Bool.{true}
 use mathlib.Core.List.{List}
 use Prim.Native.Nat.{ℕ, zero, suc}
-use borrow.Author.Needs.{needs}
 use Rattle.model.specs.declared.tables.Semaphore.{Semaphore}
 use Rattle.model.specs.declared.tables.Flags.{Flags}
 use Rattle.table.specs.Objects.{names-one-of}
+use borrow.Author.Needs.{needs}
 use Rattle.table.proofs.objects.names_object.Statement.{statement}
 use Rattle.table.proofs.objects.names_object.Tie as tie
 

@@ -1,7 +1,7 @@
 -- `objects::semaphore_there` meets its contract: the branch taken is the definition's test of the id.
 use native.Mathlib.Omega.{arith}
-use borrow.Author.Needs.{needs}
 use borrow.Author.Tests.{lt-ltb, le-ltb}
+use borrow.Author.Needs.{needs}
 use Rattle.table.proofs.objects.semaphore_there.Statement.{statement}
 use Rattle.table.proofs.objects.semaphore_there.Tie as tie
 

@@ -1,6 +1,6 @@
 -- The record that is stored is the one that was read, changed.
 use Rattle.model.specs.Parts.{refilled}
-use Rattle.table.proofs.Views.{rewritten-thread}
+use Rattle.table.proofs.Rewriting.{rewritten-thread}
 use borrow.Author.Needs.{needs}
 use Rattle.table.proofs.threads.refilled.Statement.{statement}
 use Rattle.table.proofs.threads.refilled.Tie as tie

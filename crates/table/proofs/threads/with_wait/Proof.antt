@@ -1,6 +1,6 @@
 -- The record that is stored is the one that was read, changed.
 use Rattle.model.specs.Parts.{with-wait}
-use Rattle.table.proofs.Views.{rewritten-thread}
+use Rattle.table.proofs.Rewriting.{rewritten-thread}
 use borrow.Author.Needs.{needs}
 use Rattle.table.proofs.threads.with_wait.Statement.{statement}
 use Rattle.table.proofs.threads.with_wait.Tie as tie
