@@ -2,6 +2,7 @@
 // of document 01; that the code does just that is proved in the crates above.
 pub mod actions;
 pub mod answers;
+pub mod calls;
 pub mod lists;
 pub mod modes;
 pub mod requests;

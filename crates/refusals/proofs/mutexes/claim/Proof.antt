@@ -1,0 +1,26 @@
+-- What is marked is what the model has as due.
+use Rattle.model.specs.Calls.{answers}
+use Rattle.model.specs.Layout.{view}
+use borrow.Author.Needs.{needs}
+use Rattle.refusals.proofs.mutexes.claim.Statement.{statement}
+use Rattle.refusals.proofs.mutexes.claim.Tie as tie
+
+returns : tie.Need-returns
+unfolding answers view
+returns c rows =
+    let n = c .before .before .before .before in
+    let o = n .before .before .before .before in
+    let x = o .before in
+    rw (
+      c .first .ensures,
+      n .nothing .ensures,
+      o .owns .ensures,
+      x .mutex .ensures,
+      x .before .limit-only .ensures,
+      x .before .before .mutex-there .ensures,
+    )
+
+pub claim-spec : {M : Type 1} → statement M
+claim-spec =
+    tie.close
+    (tie.spec (λ c κs. search needs) (λ c κs. search needs) (λ c κs. search needs) (λ c κs. search needs) (λ c κs. search needs) (λ c κs. search needs) returns)

@@ -1,0 +1,15 @@
+-- What is marked is what the model has as due.
+use Rattle.model.specs.Calls.{answers}
+use Rattle.model.specs.Layout.{view}
+use borrow.Author.Needs.{needs}
+use Rattle.refusals.proofs.timers.stop_timer.Statement.{statement}
+use Rattle.refusals.proofs.timers.stop_timer.Tie as tie
+
+returns : tie.Need-returns
+unfolding answers view
+returns c t rows =
+    let n = c .before .before in
+    rw (c .first .ensures, n .nothing .ensures, n .before .unused-abcd .ensures)
+
+pub stop-timer-spec : {M : Type 1} → statement M
+stop-timer-spec = tie.close (tie.spec (λ c κs. search needs) (λ c κs. search needs) (λ c κs. search needs) returns)
