@@ -21,13 +21,13 @@ use Rattle.model.specs.Promises.{rows-of, applies-in}
 -- ---- by number
 
 -- P of each of these calls, the first of which has the number n
-abbrev EachCall : (ℕ → Option Call → Type 0) → ℕ → List Call → Type 0
+abbrev pub EachCall : (ℕ → Option Call → Type 0) → ℕ → List Call → Type 0
 EachCall P n [] = Unit {0}
 EachCall P n (c ∷ cs) = P n (some c) × EachCall P (suc n) cs
 
 -- the facts for the calls are written one after another, in the order of their numbers
 infixr 10 _and_
-_and_ : {A B : Type 0} → A → B → A × B
+pub _and_ : {A B : Type 0} → A → B → A × B
 a and b = (a, b)
 
 look-up : (P : ℕ → Option Call → Type 0) (n : ℕ) (cs : List Call) → EachCall P n cs → ((k : ℕ) → n + length cs ≤ k → P k none)
@@ -38,7 +38,7 @@ look-up P n (c ∷ cs) each past (suc k) =
     let same : suc n + k ≡ n + suc k = omega arith in
     subst (λ (m : ℕ). P m (getElem? cs k)) same (look-up P (suc n) cs (each .1) (λ m h. past m (omega arith)) k)
 
-by-number : (P : ℕ → Option Call → Type 0) → EachCall P 1 calls → ((k : ℕ) → (k ≡ 0) ⊎ (22 < k) → P k none) → (n : ℕ) → P n (numbered n)
+pub by-number : (P : ℕ → Option Call → Type 0) → EachCall P 1 calls → ((k : ℕ) → (k ≡ 0) ⊎ (22 < k) → P k none) → (n : ℕ) → P n (numbered n)
 unfolding numbered calls
 by-number P each other zero = other 0 (inl refl)
 by-number P each other (suc n) =

@@ -1,0 +1,5 @@
+pub mod Facts
+pub mod MeetingLaws
+pub mod Numbered
+pub mod Replying
+pub mod Unchanged

@@ -1,0 +1,81 @@
+// The next wake-up, worked out from the records each time it is asked for: nothing is kept that could be out of date.
+ghost use mathlib.Core.Path.{_≡_};
+ghost use mathlib.Core.Bool.{cond};
+ghost use mathlib.Core.List.{map};
+ghost use Rattle.sequences.specs.Lists.{nearest, nearer};
+ghost use Rattle.model.specs.declared.tables.Thread.{Thread};
+ghost use Rattle.model.specs.declared.tables.Timer.{Timer};
+ghost use Rattle.model.specs.Parts.{thread};
+ghost use Rattle.model.specs.Tick.{quantum-counts};
+ghost use Rattle.model.specs.Time.{next};
+ghost use Rattle.model.specs.Layout.{Rows, view};
+ghost use Rattle.table.specs.Orderly.{Whole};
+use model::tables::Table;
+use model::tables::Thread;
+use model::tables::Timer;
+use table::threads;
+
+// The lesser of two counters, where 0 means that a counter doesn't run.
+fn nearer(a: u32, b: u32) -> u32
+    ensures { λ r. ⌜ r ≡ nearer a b ⌝ }
+{
+    if (a == 0) | ((0 < b) & (b < a)) { b } else { a }
+}
+
+fn nearest_timer(timers: [Timer; 8]) -> u32
+    ensures { λ r. ⌜ r ≡ nearest (map (λ (t : Timer). t .left) timers) ⌝ }
+{
+    let mut least: u32 = 0;
+    let mut o: usize = 8;
+    while 0 < o {
+        o = o - 1;
+        let x = timers[o];
+        least = nearer(x.left, least);
+    }
+    least
+}
+
+fn nearest_limit(threads: [Thread; 16]) -> u32
+    ensures { λ r. ⌜ r ≡ nearest (map (λ (t : Thread). t .limit) threads) ⌝ }
+{
+    let mut least: u32 = 0;
+    let mut i: usize = 16;
+    while 0 < i {
+        i = i - 1;
+        let x = threads[i];
+        least = nearer(x.limit, least);
+    }
+    least
+}
+
+// What is left of the running thread's quantum, where it counts (01, One tick, 2); else 0.
+fn quantum_left(t: Table) -> u16
+    requires { ⌜ ((rows : Rows) × Whole t rows) ⌝ }
+    ensures { λ r. ⌜ ((rows : Rows) → Whole t rows → r ≡ cond (quantum-counts (view t rows)) (thread (t .chosen) (view t rows) .left) 0) ⌝ }
+{
+    if 16 <= t.chosen {
+        return 0;
+    }
+    let x = threads::thread(t, t.chosen);
+    let lengths = t.lengths;
+    let p = x.current as usize;
+    if (t.off == 0) & (0 < x.quantum) & (2 <= lengths[p]) {
+        x.left
+    } else {
+        0
+    }
+}
+
+// How long the ready lists are is all that is asked of them, and that stands in the table.
+pub fn next_wake_up(t: Table) -> u32
+    requires { ⌜ ((rows : Rows) × Whole t rows) ⌝ }
+    ensures { λ r. ⌜ ((rows : Rows) → Whole t rows → r ≡ next (view t rows)) ⌝ }
+{
+    let timers = t.timers;
+    let all = t.threads;
+    let quantum = quantum_left(t) as u32;
+    let timer = nearest_timer(timers);
+    let limit = nearest_limit(all);
+    let later = nearer(timer, limit);
+    nearer(quantum, later)
+}

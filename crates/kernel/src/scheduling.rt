@@ -1,0 +1,16 @@
+// The effect of call 21.
+ghost use Rattle.model.specs.Calls.{scheduling};
+ghost use Rattle.model.specs.Effects.{scheduling-effect};
+ghost use Rattle.model.specs.Layout.{Rows};
+ghost use Rattle.table.specs.Orderly.{Meets};
+ghost use Rattle.kernel.specs.Allowed.{Allowed};
+use model::requests::Request;
+use model::tables::Table;
+use table::records;
+
+pub fn scheduling(t: Table, q: Request) -> Table
+    requires { ⌜ ((rows : Rows) × Allowed scheduling q t rows) ⌝ }
+    ensures { λ r. ⌜ Meets t (scheduling-effect q) r ⌝ }
+{
+    records::with_off(t, (1 - q.a) as u8)
+}
