@@ -19,7 +19,7 @@ use Rattle.model.specs.Layout as layout
 use Rattle.model.specs.Layout.{view, orderly, sound-table}
 use Rattle.table.specs.Orderly as table
 use Rattle.table.specs.Orderly.{Whole}
-use Rattle.table.proofs.Stored.{sound-given}
+use Rattle.table.proofs.Stored.{sound-whole}
 use Rattle.theorems.specs.Lawful.{Steady}
 use Rattle.theorems.proofs.Choosing.{sound-steady}
 use Rattle.theorems.proofs.Readings.{standing-below}
@@ -30,7 +30,7 @@ use Rattle.kernel.specs.Allowed.{Allowed}
 
 module _ {c : Call} {q : Request} {t : Table} {rows : layout.Rows} (a : Allowed c q t rows) where
   pub whole : Whole t rows
-  whole = let g = sound-given (a .sound) {i = 0} (omega arith) in record { order = g .order; placed = g .placed }
+  whole = sound-whole (a .sound)
 
   pub steady : Steady (view t rows)
   unfolding sound-table
@@ -62,6 +62,3 @@ module _ {c : Call} {q : Request} {t : Table} {rows : layout.Rows} (a : Allowed 
 
   pub flags-named : {rest : List Given} → answers c q (view t rows) ≡ (NoObject when not (has-flags (q .id) (view t rows))) ∷ rest → q .id < 4
   flags-named e = there-below (q .id) 4 _ (named (has-flags (q .id) (view t rows)) e)
-
-pub whole-given : {t : Table} {rows : layout.Rows} → Whole t rows → {i : ℕ} → i < 16 → table.Given t rows i
-whole-given w h = record { order = w .order; placed = w .placed; thread = h }

@@ -2,14 +2,13 @@
 use mathlib.Core.Path.{_≡_, _∙_, ap}
 use mathlib.Core.Bool.{true}
 use mathlib.Core.Logic.{_⊎_, inl, inr, ⊎-elim}
-use native.Mathlib.Omega.{arith}
 use Rattle.model.specs.declared.requests.Request.{Request}
 use Rattle.model.specs.declared.tables.Table.{Table}
 use Rattle.model.specs.Answers.{accepted}
 use Rattle.model.specs.Kernel.{call}
 use Rattle.model.specs.Layout.{Rows, view, lay-table, lay-rows, sound-table, laid}
 use Rattle.table.specs.Orderly.{Orderly}
-use Rattle.table.proofs.Stored.{sound-given, laid-table, laid-rows}
+use Rattle.table.proofs.Stored.{sound-whole, laid-table, laid-rows}
 use Rattle.theorems.proofs.Demand1.{refused-unchanged}
 
 pub refused-handed-back : (t : Table) (rows : Rows) (q : Request) → sound-table t rows ≡ true
@@ -20,4 +19,4 @@ refused-handed-back t rows q whole =
     (refused-unchanged (view t rows) q)
   where
     order : Orderly t rows
-    order = sound-given whole {i = 0} (omega arith) .order
+    order = sound-whole whole .order

@@ -32,14 +32,14 @@ module _ {t : Table} {rows : layout.Rows} {i : ℕ} {x : Thread} (e : x ≡ thre
   module _ (g : Given t rows i) where
     pub priority-below : x .current < 8
     unfolding view
-    priority-below = rw e (g .placed .priorities i)
+    priority-below = rw e (g .whole .placed .priorities i)
 
     pub found-ready : ltb (found t rows i (x .current)) (getD (t .lengths) (x .current) 0) ≡ is-ready i (view t rows)
     unfolding view
     found-ready =
-        ap (ltb (found t rows i (x .current))) (sym (length-at (g .order .ready) (x .current) priority-below))
+        ap (ltb (found t rows i (x .current))) (sym (length-at (g .whole .order .ready) (x .current) priority-below))
         ∙ first-counts i (getD (take-each (t .lengths) rows) (x .current) [])
-        ∙ rw e (sym (ready-level (g .placed) i))
+        ∙ rw e (sym (ready-level (g .whole .placed) i))
 
     module _ {k : ℕ} (ready : is-ready i (view t rows) ≡ true) (at : k ≡ found t rows i (x .current)) where
       pub place-found : k < getD (t .lengths) (x .current) 0
@@ -47,18 +47,18 @@ module _ {t : Table} {rows : layout.Rows} {i : ℕ} {x : Thread} (e : x ≡ thre
 
       counted : 0 < count i (getD (view t rows .ready) (x .current) [])
       unfolding view
-      counted = ltb-true 0 (count i (getD (view t rows .ready) (x .current) [])) (rw e (sym (ready-level (g .placed) i) ∙ ready))
+      counted = ltb-true 0 (count i (getD (view t rows .ready) (x .current) [])) (rw e (sym (ready-level (g .whole .placed) i) ∙ ready))
 
       pub left-ready : {after : layout.Rows} → Changed 16 8 rows (t .lengths) (x .current) (getD (t .lengths) (x .current) 0 - 1) (remove-at k) after
           → Does t rows (leave i) (table-lengths (set (t .lengths) (x .current) (getD (t .lengths) (x .current) 0 - 1)) t) after
       unfolding view
       left-ready ch =
           let s = view t rows in
-          let once : count i (getD (s .ready) (x .current) []) ≤ 1 = omega (arith, g .placed .once i, count-all-at i (s .ready) (x .current)) in
-          same-word (leave i) (stored-row (g .order) ch)
+          let once : count i (getD (s .ready) (x .current) []) ≤ 1 = omega (arith, g .whole .placed .once i, count-all-at i (s .ready) (x .current)) in
+          same-word (leave i) (stored-row (g .whole .order) ch)
           (ap (λ (l : List (List ℕ)). with-ready l s)
           (alter-alike (remove-at k) (without i) [] (s .ready) (x .current) (rw at (sym (without-once i (getD (s .ready) (x .current) []) once))))
-          ∙ sym (leave-from-ready (g .placed) i (x .current) counted))
+          ∙ sym (leave-from-ready (g .whole .placed) i (x .current) counted))
 
   pub entered-ready : Orderly t rows → {after : layout.Rows} → Changed 16 8 rows (t .lengths) (x .current) (getD (t .lengths) (x .current) 0 + 1) (snoc i) after
       → Does t rows (enter-ready i) (table-lengths (set (t .lengths) (x .current) (getD (t .lengths) (x .current) 0 + 1)) t) after

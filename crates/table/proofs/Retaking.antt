@@ -41,7 +41,7 @@ pub retaken-off : {t u v : Table} {rows after : layout.Rows} {i : ℕ} → Given
 retaken-off {t} {u} {v} {rows} {after} {i} g p below d m =
     let s = view t rows in
     off-after (and-then d (does after (d .order) m)) (g .thread)
-    (unready-placed i (with-current p) (leave i s) below (omega (arith, leave-gone i s)) (leave-placed i s (g .placed)))
+    (unready-placed i (with-current p) (leave i s) below (omega (arith, leave-gone i s)) (leave-placed i s (g .whole .placed)))
     (leave-gone i s)
 
 -- ---- off a list that is no ready list
@@ -51,4 +51,4 @@ module _ {t : Table} {rows : layout.Rows} {i : ℕ} (g : Given t rows i) where
   not-ready h = none-counted i (view t rows .ready) h
 
   pub once-on : (j : ℕ) → count i (ids-of (list-at (t .waits) j)) ≤ 1
-  once-on j = rw (← list-view t rows j) (omega (arith, g .placed .once i, count-all-at i (view t rows .waits) j))
+  once-on j = rw (← list-view t rows j) (omega (arith, g .whole .placed .once i, count-all-at i (view t rows .waits) j))

@@ -23,7 +23,7 @@ pub record Off (t : Table) (rows : layout.Rows) (i : ℕ) : Type 0 where
 
 module _ {t r : Table} {rows after : layout.Rows} {f : State → State} (d : Does t rows f r after) {i : ℕ} (below : i < 16) (placed : Placed (f (view t rows))) where
   pub given-after : Given r after i
-  given-after = record { order = d .order; placed = rw (d .view) placed; thread = below }
+  given-after = record { whole = record { order = d .order; placed = rw (d .view) placed }; thread = below }
 
   pub off-after : standing i (f (view t rows)) ≡ 0 → Off r after i
   off-after off = record { given = given-after; off = rw (d .view) off }
@@ -31,23 +31,23 @@ module _ {t r : Table} {rows after : layout.Rows} {f : State → State} (d : Doe
 module _ {t : Table} {rows : layout.Rows} {i : ℕ} (w : Off t rows i) where
   pub priority-in-range : thread-at (t .threads) i .current < 8
   unfolding view
-  priority-in-range = w .given .placed .priorities i
+  priority-in-range = w .given .whole .placed .priorities i
 
   pub row-room : (p : ℕ) → p < 8 → getD (t .lengths) p 0 < 16
   unfolding view
-  row-room p h = omega (arith, room-ready (w .given .placed) i (w .given .thread) (w .off) p, length-at (w .given .order .ready) p h)
+  row-room p h = omega (arith, room-ready (w .given .whole .placed) i (w .given .thread) (w .off) p, length-at (w .given .whole .order .ready) p h)
 
   pub list-room : (j : ℕ) → j < 18 → list-at (t .waits) j .length < 16
   list-room j h =
-      omega (arith, room-list (w .given .placed) i (w .given .thread) (w .off) j, ap length (list-view t rows j), length-held (w .given .order .table .lists j h))
+      omega (arith, room-list (w .given .whole .placed) i (w .given .thread) (w .off) j, ap length (list-view t rows j), length-held (w .given .whole .order .table .lists j h))
 
   pub ranked : (j : ℕ) → j < 18 → Ranked t j i
   ranked j h =
-      record { list = h; thread = w .given .thread; ids = listed-below (record { order = w .given .order; placed = w .given .placed }) j h }
+      record { list = h; thread = w .given .thread; ids = listed-below (w .given .whole) j h }
 
 -- who was suspended is off all lists
 pub suspended-off : {t r : Table} {rows after : layout.Rows} {i : ℕ} → Given t rows i → (limit mask mode : ℕ) → Does t rows (suspend i limit mask mode) r after → Off r after i
 unfolding suspend
 suspended-off {t} {r} {rows} {after} {i} g limit mask mode d =
     let s = alter-thread i (with-wait limit 0 mask mode) (view t rows) in
-    off-after d (g .thread) (leave-placed i s (alter-placed i (with-wait limit 0 mask mode) (view t rows) (λ x. refl) (g .placed))) (leave-gone i s)
+    off-after d (g .thread) (leave-placed i s (alter-placed i (with-wait limit 0 mask mode) (view t rows) (λ x. refl) (g .whole .placed))) (leave-gone i s)

@@ -19,7 +19,7 @@ use Rattle.model.specs.Sound.{sizes, shaped, sound-but-choice, choice-fits, sou
 use Rattle.model.specs.Layout as layout
 use Rattle.model.specs.Layout.{view, ids-of, no-ids, laid-list, lay-table, lay-rows, row-orderly, orderly, sound-table, list-at}
 use Rattle.placed.proofs.Sounds.{sound-placed}
-use Rattle.table.specs.Orderly.{Orderly, Given}
+use Rattle.table.specs.Orderly.{Orderly, Whole, Given}
 
 -- ---- one row
 
@@ -132,14 +132,16 @@ module _ {t : Table} {rows : layout.Rows} (w : Orderly t rows) where
   unfolding view lay-rows
   laid-rows = rows-padded 16 (t .lengths) rows same-many (λ p h. padded-row (row-at p h))
 
--- ---- what a word about a thread asks, every sound table has
+-- ---- what words ask, every sound table has
 
-pub sound-given : {t : Table} {rows : layout.Rows} → sound-table t rows ≡ true → {i : ℕ} → i < 16 → Given t rows i
+pub sound-whole : {t : Table} {rows : layout.Rows} → sound-table t rows ≡ true → Whole t rows
 unfolding sound-table sound
-sound-given {t} {rows} e h =
+sound-whole {t} {rows} e =
     let s = view t rows in
     record {
       order = orderly-facts t rows (left (orderly t rows) (sound s) e);
       placed = sound-placed s (left (sound-but-choice s) (choice-fits s) (right (orderly t rows) (sound s) e));
-      thread = h;
     }
+
+pub sound-given : {t : Table} {rows : layout.Rows} → sound-table t rows ≡ true → {i : ℕ} → i < 16 → Given t rows i
+sound-given e h = record { whole = sound-whole e; thread = h }

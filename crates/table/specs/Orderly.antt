@@ -55,10 +55,9 @@ pub record Whole (t : Table) (rows : layout.Rows) : Type 0 where
   pub order : Orderly t rows
   pub placed : Placed (layout.view t rows)
 
--- what a word about a thread asks: an orderly table on which threads stand as they must, and a thread's id
+-- what a word about a thread asks: that, and a thread's id
 pub record Given (t : Table) (rows : layout.Rows) (i : ℕ) : Type 0 where
-  pub order : Orderly t rows
-  pub placed : Placed (layout.view t rows)
+  pub whole : Whole t rows
   pub thread : i < thread-count
 
 -- what the place of thread i in list j asks: both are there, and the list holds threads' ids

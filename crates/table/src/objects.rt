@@ -1,8 +1,8 @@
-// Which ids name a thread or an object that is there, what an id names, and the rules for a timer's action (01, Calls, call 19). An id or a
-// number may be any of 32 bits; what isn't there is all zero.
+// What an id names, whether that is there, and the rules for a timer's action (01, Calls, call 19). An id or a number may be any of 32 bits;
+// what isn't there is all zero.
 ghost use mathlib.Core.Path.{_≡_};
 ghost use lib.ListN.{getD};
-ghost use Rattle.model.specs.State.{absent-semaphore, absent-mutex, absent-flags};
+ghost use Rattle.model.specs.State.{absent-thread, absent-semaphore, absent-mutex, absent-flags};
 ghost use Rattle.model.specs.Ranges.{action-in-range};
 ghost use Rattle.table.specs.Objects.{thread-there, semaphore-there, mutex-there, flags-there, names-one-of};
 use crate::fresh;
@@ -14,51 +14,14 @@ use model::tables::Mutex;
 use model::tables::Semaphore;
 use model::tables::Thread;
 
-pub fn thread_there(threads: [Thread; 16], i: u32) -> bool
-    ensures { λ r. ⌜ r ≡ thread-there threads i ⌝ }
+pub fn thread(threads: [Thread; 16], i: u32) -> Thread
+    ensures { λ r. ⌜ r ≡ getD threads i absent-thread ⌝ }
 {
     if i < 16 {
         let k = i as usize;
-        let x = threads[k];
-        x.created == 1
+        threads[k]
     } else {
-        false
-    }
-}
-
-pub fn semaphore_there(semaphores: [Semaphore; 8], o: u32) -> bool
-    ensures { λ r. ⌜ r ≡ semaphore-there semaphores o ⌝ }
-{
-    if o < 8 {
-        let i = o as usize;
-        let x = semaphores[i];
-        x.created == 1
-    } else {
-        false
-    }
-}
-
-pub fn mutex_there(mutexes: [Mutex; 4], o: u32) -> bool
-    ensures { λ r. ⌜ r ≡ mutex-there mutexes o ⌝ }
-{
-    if o < 4 {
-        let i = o as usize;
-        let x = mutexes[i];
-        x.created == 1
-    } else {
-        false
-    }
-}
-
-pub fn flags_there(flags: [Flags; 4], o: u32) -> bool
-    ensures { λ r. ⌜ r ≡ flags-there flags o ⌝ }
-{
-    if o < 4 {
-        let i = o as usize;
-        let x = flags[i];
-        x.created == 1
-    } else {
-        false
+        fresh::absent_thread()
     }
 }
 
@@ -93,6 +56,34 @@ pub fn flag_object(flags: [Flags; 4], o: u32) -> Flags
     } else {
         fresh::absent_flags()
     }
+}
+
+pub fn thread_there(threads: [Thread; 16], i: u32) -> bool
+    ensures { λ r. ⌜ r ≡ thread-there threads i ⌝ }
+{
+    let x = thread(threads, i);
+    x.created == 1
+}
+
+pub fn semaphore_there(semaphores: [Semaphore; 8], o: u32) -> bool
+    ensures { λ r. ⌜ r ≡ semaphore-there semaphores o ⌝ }
+{
+    let x = semaphore(semaphores, o);
+    x.created == 1
+}
+
+pub fn mutex_there(mutexes: [Mutex; 4], o: u32) -> bool
+    ensures { λ r. ⌜ r ≡ mutex-there mutexes o ⌝ }
+{
+    let x = mutex(mutexes, o);
+    x.created == 1
+}
+
+pub fn flags_there(flags: [Flags; 4], o: u32) -> bool
+    ensures { λ r. ⌜ r ≡ flags-there flags o ⌝ }
+{
+    let x = flag_object(flags, o);
+    x.created == 1
 }
 
 pub fn names_object(semaphores: [Semaphore; 8], flags: [Flags; 4], kind: u32, object: u32) -> bool

@@ -5,7 +5,7 @@ use denote.Ref.{now}
 use Rattle.model.specs.Calls.{calls, numbered, scheduling}
 use Rattle.model.specs.Layout.{view}
 use Rattle.table.specs.Orderly.{Orderly}
-use Rattle.table.proofs.Stored.{sound-given}
+use Rattle.table.proofs.Stored.{sound-whole}
 use Rattle.table.proofs.Views.{does}
 use Rattle.kernel.specs.Effect.{effect-of}
 use Rattle.kernel.proofs.Numbered.{allowed, meets-effect, call-number}
@@ -14,7 +14,7 @@ use Rattle.kernel.proofs.effect.Statement.{statement}
 use Rattle.kernel.proofs.effect.Tie as tie
 
 order : (s : tie.Start) → Orderly (s .args .t) (now (s .args .rows))
-order s = sound-given (s .pre .0 .sound) {i = 0} (omega arith) .order
+order s = sound-whole (s .pre .0 .sound) .order
 
 last : (c : tie.Else5) → c .before .before .before .before .before .args .q .call ≡ 21
 last c = let s = c .before .before .before .before .before in omega (arith, s .pre .1, c .if5 .left)

@@ -7,7 +7,7 @@ use Rattle.model.specs.Answers.{accepted}
 use Rattle.model.specs.Calls.{numbered}
 use Rattle.model.specs.Kernel.{judge, perform, next-state}
 use Rattle.model.specs.Layout.{view}
-use Rattle.table.proofs.Stored.{sound-given}
+use Rattle.table.proofs.Stored.{sound-whole}
 use Rattle.table.proofs.Views.{same-word}
 use Rattle.kernel.proofs.Numbered.{call-number}
 use borrow.Author.Needs.{needs}
@@ -40,7 +40,7 @@ returns-2 c =
     let s = c .before .before in
     let q = s .args .q in
     record {
-      order = sound-given (s .pre .0) {i = 0} (omega arith) .order;
+      order = sound-whole (s .pre .0) .order;
       view = ap (λ (b : Bool). perform b (numbered (q .call)) q (view (s .args .t) (now (s .args .rows)))) (sym (c .if1 .left) ∙ c .before .is-accepted .ensures);
     }
 

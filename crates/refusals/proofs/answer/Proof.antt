@@ -1,9 +1,8 @@
 -- Outside 1 to 22 there is no call; inside, each range of numbers is one family's.
-use native.Mathlib.Omega.{arith}
 use Rattle.model.specs.Kernel.{judge}
 use Rattle.model.specs.Layout.{view}
 use Rattle.table.specs.Orderly.{OrderlyTable}
-use Rattle.table.proofs.Stored.{sound-given}
+use Rattle.table.proofs.Stored.{sound-whole}
 use Rattle.refusals.proofs.ByNumber.{no-call, call-in-range}
 use borrow.Author.Needs.{needs}
 use Rattle.refusals.proofs.answer.Statement.{statement}
@@ -19,7 +18,7 @@ answer-requires c κs =
     (s .pre, (call-in-range (s .args .q .call) (c .before .if1 .left) .0, c .if2 .taken))
 
 orderly : (s : tie.Start) → OrderlyTable (s .args .t)
-orderly s = sound-given (s .pre) {i = 0} (omega arith) .order .table
+orderly s = sound-whole (s .pre) .order .table
 
 answer-requires-2 : tie.Need-answer-requires-2
 answer-requires-2 c κs = (orderly (c .before .before .before), (c .before .if2 .left, c .if3 .taken))

@@ -15,7 +15,6 @@ use Rattle.table.specs.Orderly.{Whole}
 use Rattle.table.proofs.Views.{does, list-view}
 use Rattle.table.proofs.StoredLists.{listed-below}
 use Rattle.table.proofs.Rewriting.{rewritten-flags}
-use Rattle.kernel.proofs.Facts.{whole-given}
 use Rattle.kernel.proofs.MeetingLaws.{Waking, waking-next, waking-done}
 use borrow.Author.Needs.{needs}
 use Rattle.kernel.proofs.flags.change_word.Statement.{statement}
@@ -54,7 +53,7 @@ wake-met-requires : tie.Need-wake-met-requires Inv-loop μ-loop
 wake-met-requires c κs =
     let s = c .before .before .before .before .before .before .before .before in
     let l = c .before .before .loop in
-    whole-given (l .inv .whole) (listed-below (s .pre .0) (flags-list (s .args .o)) (omega (arith, s .pre .1)) (l .k) (c .before .loop-test .taken))
+    record { whole = l .inv .whole; thread = listed-below (s .pre .0) (flags-list (s .args .o)) (omega (arith, s .pre .1)) (l .k) (c .before .loop-test .taken) }
 
 loop-again : tie.Need-loop-again Inv-loop μ-loop
 loop-again c =

@@ -23,7 +23,7 @@ use Rattle.table.specs.Orderly.{Meets, Does}
 use Rattle.table.specs.Orderly.{Whole}
 use Rattle.table.proofs.Views.{does, then, same-word}
 use Rattle.refusals.proofs.InRange.{wait-fits}
-use Rattle.kernel.proofs.Facts.{whole, whole-given, running-below, flags-named, not-due}
+use Rattle.kernel.proofs.Facts.{whole, running-below, flags-named, not-due}
 use borrow.Author.Needs.{needs}
 use Rattle.kernel.proofs.flags.wait.Statement.{statement}
 use Rattle.kernel.proofs.flags.wait.Tie as tie
@@ -74,7 +74,7 @@ with-delivered-requires c κs = (c .with-result .ensures .order, runs (c .before
 start-to-wait-requires : tie.Need-start-to-wait-requires
 start-to-wait-requires c κs =
     let s = c .before .before .before .before .before .before .before in
-    (whole-given (whole (s .pre)) (runs s), omega (arith, below s))
+    (record { whole = whole (s .pre); thread = runs s }, omega (arith, below s))
 
 returns : tie.Need-returns
 returns c =

@@ -25,8 +25,8 @@ tested t rows i word x b c read test is = rw (← read) (sym test ∙ is)
 wake-requires : tie.Need-wake-requires
 wake-requires c κs =
     let s = c .before .before .before .before .before in
-    let m = does (now (s .args .rows)) (s .pre .order) (c .before .with-delivered .ensures) in
-    given-after m (s .pre .thread) (alter-placed (s .args .i) (with-delivered (s .args .word)) (view (s .args .t) (now (s .args .rows))) (λ x. refl) (s .pre .placed))
+    let m = does (now (s .args .rows)) (s .pre .whole .order) (c .before .with-delivered .ensures) in
+    given-after m (s .pre .thread) (alter-placed (s .args .i) (with-delivered (s .args .word)) (view (s .args .t) (now (s .args .rows))) (λ x. refl) (s .pre .whole .placed))
 
 returns : tie.Need-returns
 unfolding wake-met
@@ -36,7 +36,7 @@ returns c =
     let rows = now (a .rows) in
     let x = c .before .before .before .before .before .thread in
     let e = tested (a .t) rows (a .i) (a .word) (x .result) _ _ (x .ensures) (c .before .before .before .before .holds .ensures) (c .before .before .before .if1 .taken) in
-    same-word (wake-met (a .word) (a .i)) (and-then (does rows (s .pre .order) (c .before .before .with-delivered .ensures)) (c .wake .ensures)) (rw e)
+    same-word (wake-met (a .word) (a .i)) (and-then (does rows (s .pre .whole .order) (c .before .before .with-delivered .ensures)) (c .wake .ensures)) (rw e)
 
 returns-2 : tie.Need-returns-2
 unfolding wake-met
@@ -46,7 +46,7 @@ returns-2 c =
     let rows = now (a .rows) in
     let x = c .before .before .thread in
     let e = tested (a .t) rows (a .i) (a .word) (x .result) _ _ (x .ensures) (c .before .holds .ensures) (c .if1 .left) in
-    record { order = s .pre .order; view = rw e }
+    record { order = s .pre .whole .order; view = rw e }
 
 pub wake-met-spec : {M : Type 1} → statement M
 wake-met-spec = tie.close (tie.spec (λ c κs. search needs) (λ c κs. search needs) (λ c κs. search needs) wake-requires returns returns-2)

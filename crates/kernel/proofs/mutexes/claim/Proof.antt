@@ -23,7 +23,7 @@ use Rattle.placed.proofs.Entering.{start-to-wait-placed}
 use Rattle.table.proofs.Rooms.{given-after}
 use Rattle.table.proofs.Views.{then, does, and-then, same-word}
 use Rattle.table.proofs.Rewriting.{rewritten-mutex}
-use Rattle.kernel.proofs.Facts.{whole, steady, running-below, mutex-named, whole-given, not-due}
+use Rattle.kernel.proofs.Facts.{whole, steady, running-below, mutex-named, not-due}
 use borrow.Author.Needs.{needs}
 use Rattle.kernel.proofs.mutexes.claim.Statement.{statement}
 use Rattle.kernel.proofs.mutexes.claim.Tie as tie
@@ -79,7 +79,7 @@ start-to-wait-requires : tie.Need-start-to-wait-requires
 start-to-wait-requires c κs =
     let s = c .before .before .before .before .before .before in
     let h = below s in
-    (whole-given (whole (s .pre)) (running s), omega arith)
+    (record { whole = whole (s .pre); thread = running s }, omega arith)
 
 raise-requires : tie.Need-raise-requires
 unfolding view

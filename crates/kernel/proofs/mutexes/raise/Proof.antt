@@ -17,7 +17,7 @@ take-priority-requires : tie.Need-take-priority-requires
 unfolding view
 take-priority-requires c κs =
     let s = c .before .before .before .before .before .before in
-    (s .pre .0, rw (c .before .before .before .before .thread2 .ensures) (s .pre .0 .placed .priorities (s .args .from)))
+    (s .pre .0, rw (c .before .before .before .before .thread2 .ensures) (s .pre .0 .whole .placed .priorities (s .args .from)))
 
 -- the priorities compared are the model's
 own-read : (b : tie.After-thread2) → let s = b .before .before in b .before .thread .result .current ≡ thread-at (s .args .t .threads) (s .args .i) .current
@@ -46,7 +46,7 @@ returns-2 c =
     let own = thread-at (s .args .t .threads) (s .args .i) .current in
     let other = thread-at (s .args .t .threads) (s .args .from) .current in
     let e : own ≡ max own other = omega (arith, own-read b, other-read b, c .if1 .left) in
-    record { order = s .pre .0 .order; view = rw (eq-eqb own (max own other) e) }
+    record { order = s .pre .0 .whole .order; view = rw (eq-eqb own (max own other) e) }
 
 pub raise-spec : {M : Type 1} → statement M
 raise-spec = tie.close (tie.spec (λ c κs. search needs) (λ c κs. search needs) take-priority-requires returns returns-2)

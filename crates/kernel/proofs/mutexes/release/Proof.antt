@@ -22,7 +22,7 @@ use Rattle.table.proofs.Rewriting.{rewritten-mutex}
 use Rattle.theorems.proofs.Fits.{range}
 use Rattle.theorems.proofs.Priorities.{take-priority-ready}
 use Rattle.theorems.proofs.Running.{running-ready, running-waits}
-use Rattle.kernel.proofs.Facts.{whole, steady, running-below, mutex-named, whole-given, not-due}
+use Rattle.kernel.proofs.Facts.{whole, steady, running-below, mutex-named, not-due}
 use borrow.Author.Needs.{needs}
 use Rattle.kernel.proofs.mutexes.release.Statement.{statement}
 use Rattle.kernel.proofs.mutexes.release.Tie as tie
@@ -65,7 +65,7 @@ module _ (s : tie.Start) where
 
 fall-requires : tie.Need-fall-requires
 unfolding view
-fall-requires c κs = let s = c .before .before .before .before .before in (whole-given (whole (s .pre)) (running s), base-below s)
+fall-requires c κs = let s = c .before .before .before .before .before in (record { whole = whole (s .pre); thread = running s }, base-below s)
 
 hand-over-requires : tie.Need-hand-over-requires
 unfolding view

@@ -4,7 +4,7 @@ use native.Mathlib.Omega.{arith}
 use denote.Ref.{now}
 use Rattle.model.specs.Calls.{calls, numbered, create-semaphore, pend, post}
 use Rattle.table.specs.Orderly.{Orderly}
-use Rattle.table.proofs.Stored.{sound-given}
+use Rattle.table.proofs.Stored.{sound-whole}
 use Rattle.table.proofs.Views.{does}
 use Rattle.kernel.specs.Effect.{effect-of}
 use Rattle.kernel.proofs.Numbered.{allowed, does-effect, meets-effect}
@@ -12,7 +12,7 @@ use Rattle.kernel.proofs.semaphores.effect.Statement.{statement}
 use Rattle.kernel.proofs.semaphores.effect.Tie as tie
 
 order : (s : tie.Start) → Orderly (s .args .t) (now (s .args .rows))
-order s = sound-given (s .pre .0 .sound) {i = 0} (omega arith) .order
+order s = sound-whole (s .pre .0 .sound) .order
 
 last : (m : tie.At-match-rest) → m .before .args .q .call ≡ 11
 last m = omega (arith, m .before .pre .1, m .match .rest)

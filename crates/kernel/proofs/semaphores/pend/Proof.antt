@@ -16,7 +16,7 @@ use Rattle.model.specs.Layout.{view}
 use Rattle.table.proofs.Views.{then, does, same-word}
 use Rattle.table.proofs.Rewriting.{rewritten-semaphore}
 use Rattle.kernel.specs.Allowed.{Allowed}
-use Rattle.kernel.proofs.Facts.{whole, running-below, semaphore-named, whole-given, not-due}
+use Rattle.kernel.proofs.Facts.{whole, running-below, semaphore-named, not-due}
 use borrow.Author.Needs.{needs}
 use Rattle.kernel.proofs.semaphores.pend.Statement.{statement}
 use Rattle.kernel.proofs.semaphores.pend.Tie as tie
@@ -39,7 +39,7 @@ element-copy-out-x c = below (c .before .pre)
 start-to-wait-requires : tie.Need-start-to-wait-requires
 start-to-wait-requires c κs =
     let s = c .before .before .before .before .before in
-    (whole-given (whole (s .pre)) (runs-below (s .pre)), list-below (s .pre))
+    (record { whole = whole (s .pre); thread = runs-below (s .pre) }, list-below (s .pre))
 
 with-semaphore-requires : tie.Need-with-semaphore-requires
 with-semaphore-requires c κs =

@@ -8,7 +8,6 @@ use Rattle.model.specs.Effects.{post-to, post-semaphore}
 use Rattle.model.specs.Layout.{view, list-at}
 use Rattle.table.proofs.Views.{does, same-word}
 use Rattle.table.proofs.StoredLists.{listed-below, none-listed, first-listed}
-use Rattle.kernel.proofs.Facts.{whole-given}
 use borrow.Author.Needs.{needs}
 use Rattle.kernel.proofs.semaphores.post_semaphore.Statement.{statement}
 use Rattle.kernel.proofs.semaphores.post_semaphore.Tie as tie
@@ -23,7 +22,7 @@ wake-requires : tie.Need-wake-requires
 wake-requires c κs =
     let s = c .before .before .before .before .before in
     let o = s .args .o in
-    whole-given (s .pre .0) (listed-below (s .pre .0) (2 + o) (list-below o (s .pre .1)) 0 (somebody (c .before .before)))
+    record { whole = s .pre .0; thread = listed-below (s .pre .0) (2 + o) (list-below o (s .pre .1)) 0 (somebody (c .before .before)) }
 
 returns : tie.Need-returns
 unfolding post-semaphore post-to

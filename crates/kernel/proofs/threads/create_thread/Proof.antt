@@ -74,7 +74,7 @@ enter-tail-requires c κs =
     let current : x .current < 8 = rw (c .before .new-thread .ensures) (priority-below s) in
     let placed = unready-placed i (λ _. x) (before s) current (omega (arith, off s)) (whole (s .pre .1) .placed) in
     let w = off-after (does (s .pre .0) (whole (s .pre .1) .order) (c .with-thread .ensures)) (below s) placed (off s) in
-    (w .given .order .table, (omega arith, list-room w 1 (omega arith)))
+    (w .given .whole .order .table, (omega arith, list-room w 1 (omega arith)))
 
 returns : tie.Need-returns
 unfolding create-thread-effect

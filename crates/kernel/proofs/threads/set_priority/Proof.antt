@@ -43,7 +43,7 @@ module _ (s : tie.Start) where
   new-below = by-owner (owns-any (s .args .q .id) before)
     where
       by-owner : (owner : Bool) → cond owner (max (s .args .q .a) (thread (s .args .q .id) before .current)) (s .args .q .a) < 8
-      by-owner true = omega (arith, base-below, given .placed .priorities (s .args .q .id))
+      by-owner true = omega (arith, base-below, given .whole .placed .priorities (s .args .q .id))
       by-owner false = base-below
 
 cast-i : tie.Need-cast-i
@@ -56,16 +56,16 @@ new-current-requires : tie.Need-new-current-requires
 new-current-requires c κs = below (c .before .before)
 
 with-base-requires : tie.Need-with-base-requires
-with-base-requires c κs = let s = c .before .before .before in (given s .order .table, below s)
+with-base-requires c κs = let s = c .before .before .before in (given s .whole .order .table, below s)
 
 take-priority-requires : tie.Need-take-priority-requires
 take-priority-requires c κs =
     let s = c .before .before .before .before .before in
     let q = s .args .q in
     let rows = now (s .args .rows) in
-    let d = does rows (given s .order) (c .before .with-base .ensures) in
+    let d = does rows (given s .whole .order) (c .before .with-base .ensures) in
     let p : c .before .before .new-current .result < 8 = rw (c .before .before .new-current .ensures rows) (new-below s) in
-    (given-after d (below s) (alter-placed (q .id) (with-base (q .a)) (before s) (λ x. refl) (given s .placed)), p)
+    (given-after d (below s) (alter-placed (q .id) (with-base (q .a)) (before s) (λ x. refl) (given s .whole .placed)), p)
 
 returns : tie.Need-returns
 unfolding set-priority-effect
@@ -73,7 +73,7 @@ returns c =
     let s = c .before .before .before .before .before .before in
     let q = s .args .q in
     let rows = now (s .args .rows) in
-    same-word (set-priority-effect q) (and-then (does rows (given s .order) (c .before .before .with-base .ensures)) (c .take-priority .ensures))
+    same-word (set-priority-effect q) (and-then (does rows (given s .whole .order) (c .before .before .with-base .ensures)) (c .take-priority .ensures))
     (ap (λ (p : ℕ). take-priority (q .id) p (alter-thread (q .id) (with-base (q .a)) (before s))) (c .before .before .before .new-current .ensures rows))
 
 pub set-priority-spec : {M : Type 1} → statement M

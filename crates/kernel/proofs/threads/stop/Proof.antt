@@ -33,8 +33,8 @@ enter-tail-requires c κs =
     let s = c .before .before .before in
     let i = s .args .q .id in
     let v = view (s .args .t) (now (s .args .rows)) in
-    let w = off-after (c .leave .ensures) (below s) (leave-placed i v (given s .placed)) (leave-gone i v) in
-    (w .given .order .table, (omega arith, list-room w 1 (omega arith)))
+    let w = off-after (c .leave .ensures) (below s) (leave-placed i v (given s .whole .placed)) (leave-gone i v) in
+    (w .given .whole .order .table, (omega arith, list-room w 1 (omega arith)))
 
 returns : tie.Need-returns
 unfolding stop-effect

@@ -5,14 +5,14 @@ use native.Mathlib.Omega.{arith}
 use Rattle.model.specs.Calls.{calls, numbered}
 use Rattle.model.specs.Kernel.{judge}
 use Rattle.model.specs.Layout.{view}
-use Rattle.table.proofs.Stored.{sound-given}
+use Rattle.table.proofs.Stored.{sound-whole}
 use Rattle.refusals.proofs.ByNumber.{by-number}
 use borrow.Author.Needs.{needs}
 use Rattle.refusals.proofs.threads.answer.Statement.{statement}
 use Rattle.refusals.proofs.threads.answer.Tie as tie
 
 start-requires : tie.Need-start-requires
-start-requires c κs = sound-given (c .before .pre .0) {i = 0} (omega arith) .order .table
+start-requires c κs = sound-whole (c .before .pre .0) .order .table
 
 returns : tie.Need-returns
 unfolding judge numbered calls

@@ -9,13 +9,13 @@ use Rattle.table.proofs.leaving.leave_ready.Tie as tie
 find-requires : tie.Need-find-requires
 find-requires c κs =
     let s = c .before .before .before .before in
-    (s .pre .0 .order .ready, priority-below (c .before .before .before .thread .ensures) (s .pre .0))
+    (s .pre .0 .whole .order .ready, priority-below (c .before .before .before .thread .ensures) (s .pre .0))
 
 remove-requires : tie.Need-remove-requires
 remove-requires c κs =
     let s = c .before .before .before .before .before in
     let x = c .before .before .before .before .thread .ensures in
-    (s .pre .0 .order .ready, (priority-below x (s .pre .0), place-found x (s .pre .0) (s .pre .1) (c .find .ensures)))
+    (s .pre .0 .whole .order .ready, (priority-below x (s .pre .0), place-found x (s .pre .0) (s .pre .1) (c .find .ensures)))
 
 below : (c : tie.After-remove) → c .before .before .before .before .before .thread .result .current < 8
 below c = priority-below (c .before .before .before .before .before .thread .ensures) (c .before .before .before .before .before .before .pre .0)

@@ -8,8 +8,8 @@ use lib.Dec.{leb, ltb}
 use Rattle.sequences.proofs.Tests.{right}
 use Rattle.model.specs.State.{State}
 use Rattle.model.specs.Parts.{alter-thread, with-current}
-use Rattle.model.specs.Layout.{view}
 use Rattle.model.specs.Words.{list-of, leave, re-enter}
+use Rattle.model.specs.Layout.{view}
 use Rattle.placed.proofs.Leaving.{waiting-list, leave-from-list}
 use Rattle.table.specs.Orderly.{Does}
 use Rattle.table.proofs.Retaking.{retaken-off, re-enter-waiting, re-enter-other, not-ready, once-on}
@@ -32,14 +32,14 @@ off-list : (c : tie.After-leave-list) → let s = c .before .before .before in
 off-list c =
     let s = c .before .before .before in
     let i = s .args .i in
-    same-word (leave i) (does (now (s .args .rows)) (s .pre .0 .order) (c .leave-list .ensures))
-    (sym (leave-from-list (s .pre .0 .placed) i _ (at-list (c .before .before)) (listed (c .before .if1 .taken)) (not-ready (s .pre .0) (s .pre .1 .1))))
+    same-word (leave i) (does (now (s .args .rows)) (s .pre .0 .whole .order) (c .leave-list .ensures))
+    (sym (leave-from-list (s .pre .0 .whole .placed) i _ (at-list (c .before .before)) (listed (c .before .if1 .taken)) (not-ready (s .pre .0) (s .pre .1 .1))))
 
 leave-list-requires : tie.Need-leave-list-requires
 leave-list-requires c κs =
     let s = c .before .before in
     let j = c .before .list-of .result in
-    (s .pre .0 .order .table, (listed (c .if1 .taken), once-on (s .pre .0) j))
+    (s .pre .0 .whole .order .table, (listed (c .if1 .taken), once-on (s .pre .0) j))
 
 enter-by-priority-requires : tie.Need-enter-by-priority-requires
 enter-by-priority-requires c κs =
@@ -47,7 +47,7 @@ enter-by-priority-requires c κs =
     let j = c .before .before .before .list-of .result in
     let h = listed (c .before .before .if1 .taken) in
     let w = retaken-off (s .pre .0) (s .args .p) (s .pre .1 .0) (off-list (c .before)) (c .with-current .ensures) in
-    (w .given .order .table, (ranked w j h, list-room w j h))
+    (w .given .whole .order .table, (ranked w j h, list-room w j h))
 
 returns : tie.Need-returns
 returns c =
@@ -59,8 +59,8 @@ returns c =
     let e = at-list (c .before .before .before .before) in
     same-word (λ (x : State). re-enter i (alter-thread i (with-current (s .args .p)) x))
     (and-then (and-then d (does (now (s .args .rows)) (d .order) (c .before .with-current .ensures)))
-    (does (now (s .args .rows)) (w .given .order) (c .enter-by-priority .ensures)))
-    (rw e (re-enter-waiting i (s .args .p) v (s .pre .1 .1) (waiting-list (s .pre .0 .placed) i _ e ∙ c .before .before .before .if1 .taken)))
+    (does (now (s .args .rows)) (w .given .whole .order) (c .enter-by-priority .ensures)))
+    (rw e (re-enter-waiting i (s .args .p) v (s .pre .1 .1) (waiting-list (s .pre .0 .whole .placed) i _ e ∙ c .before .before .before .if1 .taken)))
 
 returns-2 : tie.Need-returns-2
 returns-2 c =
@@ -68,8 +68,8 @@ returns-2 c =
     let i = s .args .i in
     let v = view (s .args .t) (now (s .args .rows)) in
     same-word (λ (x : State). re-enter i (alter-thread i (with-current (s .args .p)) x))
-    (does (now (s .args .rows)) (s .pre .0 .order) (c .with-current2 .ensures))
-    (re-enter-other i (s .args .p) v (s .pre .1 .1) (waiting-list (s .pre .0 .placed) i _ (at-list (c .before .before)) ∙ c .before .if1 .left))
+    (does (now (s .args .rows)) (s .pre .0 .whole .order) (c .with-current2 .ensures))
+    (re-enter-other i (s .args .p) v (s .pre .1 .1) (waiting-list (s .pre .0 .whole .placed) i _ (at-list (c .before .before)) ∙ c .before .if1 .left))
 
 pub take-elsewhere-spec : {M : Type 1} → statement M
 take-elsewhere-spec =

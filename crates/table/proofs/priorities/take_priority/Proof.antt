@@ -4,8 +4,8 @@ use borrow.Author.Tests.{eq-eqb, ne-eqb}
 use denote.Ref.{now}
 use Rattle.model.specs.declared.tables.Table.{Table}
 use Rattle.model.specs.Parts.{alter-thread, with-current}
-use Rattle.model.specs.Layout.{Rows, view}
 use Rattle.model.specs.Words.{re-enter, take-priority}
+use Rattle.model.specs.Layout.{Rows, view}
 use Rattle.table.specs.Orderly.{Does}
 use Rattle.table.proofs.Views.{same-word}
 use borrow.Author.Needs.{needs}
@@ -27,7 +27,7 @@ unfolding take-priority view
 returns c =
     let s = c .before .before .before in
     let e = c .before .before .thread .ensures in
-    record { order = s .pre .0 .order; view = rw (← e, eq-eqb _ _ (c .if1 .taken)) }
+    record { order = s .pre .0 .whole .order; view = rw (← e, eq-eqb _ _ (c .if1 .taken)) }
 
 take-ready-requires : tie.Need-take-ready-requires
 take-ready-requires c κs =

@@ -2,8 +2,8 @@
 use denote.Ref.{now}
 use Rattle.model.specs.State.{State}
 use Rattle.model.specs.Parts.{alter-thread, with-current}
-use Rattle.model.specs.Layout.{view}
 use Rattle.model.specs.Words.{re-enter}
+use Rattle.model.specs.Layout.{view}
 use Rattle.table.proofs.Retaking.{retaken-off, re-enter-ready}
 use Rattle.table.proofs.Rooms.{priority-in-range, row-room}
 use Rattle.table.proofs.Views.{does, and-then, same-word}
@@ -15,7 +15,7 @@ enter-ready-requires : tie.Need-enter-ready-requires
 enter-ready-requires c κs =
     let s = c .before .before .before .before in
     let w = retaken-off (s .pre .0) (s .args .p) (s .pre .1 .0) (c .before .before .leave-ready .ensures) (c .before .with-current .ensures) in
-    (w .given .order, (s .pre .0 .thread, priority-in-range w, row-room w _ (priority-in-range w)))
+    (w .given .whole .order, (s .pre .0 .thread, priority-in-range w, row-room w _ (priority-in-range w)))
 
 returns : tie.Need-returns
 returns c =

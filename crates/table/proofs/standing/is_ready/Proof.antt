@@ -8,7 +8,7 @@ use Rattle.table.proofs.standing.is_ready.Tie as tie
 find-requires : tie.Need-find-requires
 find-requires c κs =
     let s = c .before .before .before in
-    (s .pre .order .ready, priority-below (c .before .before .thread .ensures) (s .pre))
+    (s .pre .whole .order .ready, priority-below (c .before .before .thread .ensures) (s .pre))
 
 array-read-result : tie.Need-array-read-result
 array-read-result c = priority-below (c .before .before .before .thread .ensures) (c .before .before .before .before .pre)
@@ -17,7 +17,7 @@ cast-result : tie.Need-cast-result
 cast-result c =
     let s = c .before .before .before .before in
     let p = c .before .before .before .thread .result .current in
-    omega (arith, s .pre .order .ready .each p (priority-below (c .before .before .before .thread .ensures) (s .pre)) .room)
+    omega (arith, s .pre .whole .order .ready .each p (priority-below (c .before .before .before .thread .ensures) (s .pre)) .room)
 
 returns : tie.Need-returns
 returns c =

@@ -11,14 +11,14 @@ enter-tail-requires : tie.Need-enter-tail-requires
 enter-tail-requires c κs =
     let s = c .before .before in
     let w = suspended-off (s .pre) (s .args .span) 0 0 (c .suspend .ensures) in
-    (w .given .order .table, (omega arith, list-room w 0 (omega arith)))
+    (w .given .whole .order .table, (omega arith, list-room w 0 (omega arith)))
 
 returns : tie.Need-returns
 unfolding start-to-sleep
 returns c =
     let s = c .before .before .before in
     let w = suspended-off (s .pre) (s .args .span) 0 0 (c .before .suspend .ensures) in
-    and-then (c .before .suspend .ensures) (does (c .before .suspend .last .1 .0) (w .given .order) (c .enter-tail .ensures))
+    and-then (c .before .suspend .ensures) (does (c .before .suspend .last .1 .0) (w .given .whole .order) (c .enter-tail .ensures))
 
 pub start-to-sleep-spec : {M : Type 1} → statement M
 start-to-sleep-spec = tie.close (tie.spec (λ c κs. search needs) enter-tail-requires returns)

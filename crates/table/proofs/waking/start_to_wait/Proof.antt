@@ -10,14 +10,14 @@ enter-by-priority-requires : tie.Need-enter-by-priority-requires
 enter-by-priority-requires c κs =
     let s = c .before .before in
     let w = suspended-off (s .pre .0) (s .args .limit) (s .args .mask) (s .args .mode) (c .suspend .ensures) in
-    (w .given .order .table, (ranked w (s .args .j) (s .pre .1), list-room w (s .args .j) (s .pre .1)))
+    (w .given .whole .order .table, (ranked w (s .args .j) (s .pre .1), list-room w (s .args .j) (s .pre .1)))
 
 returns : tie.Need-returns
 unfolding start-to-wait
 returns c =
     let s = c .before .before .before in
     let w = suspended-off (s .pre .0) (s .args .limit) (s .args .mask) (s .args .mode) (c .before .suspend .ensures) in
-    and-then (c .before .suspend .ensures) (does (c .before .suspend .last .1 .0) (w .given .order) (c .enter-by-priority .ensures))
+    and-then (c .before .suspend .ensures) (does (c .before .suspend .last .1 .0) (w .given .whole .order) (c .enter-by-priority .ensures))
 
 pub start-to-wait-spec : {M : Type 1} → statement M
 start-to-wait-spec = tie.close (tie.spec (λ c κs. search needs) enter-by-priority-requires returns)
