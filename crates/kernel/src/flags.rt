@@ -19,6 +19,7 @@ use table::records;
 use table::threads;
 use table::waking;
 
+// Call 15.
 fn create_flags(t: Table, q: Request) -> Table
     requires { ⌜ ((rows : Rows) × Allowed create-flags q t rows) ⌝ }
     ensures { λ r. ⌜ Meets t (create-flags-effect q) r ⌝ }
@@ -30,6 +31,7 @@ fn create_flags(t: Table, q: Request) -> Table
     records::with_flags(t, q.id as usize, x)
 }
 
+// Call 16: where the condition holds the whole word is delivered, else the running thread waits.
 fn wait(t: Table, rows: &mut [[u8; 16]; 8], q: Request) -> Table
     requires { ⌜ Allowed wait q t (now rows) ⌝ }
     ensures { λ r. ⌜ Does t (now (rows .entry)) (wait-effect q) r (now (rows .exit)) ⌝ }
@@ -90,6 +92,7 @@ pub fn set_flags(t: Table, rows: &mut [[u8; 16]; 8], o: usize, mask: u16) -> Tab
     change_word(t, &mut *rows, o, x.word | mask)
 }
 
+// Call 17.
 fn set(t: Table, rows: &mut [[u8; 16]; 8], q: Request) -> Table
     requires { ⌜ Allowed set q t (now rows) ⌝ }
     ensures { λ r. ⌜ Does t (now (rows .entry)) (set-effect q) r (now (rows .exit)) ⌝ }
@@ -97,6 +100,7 @@ fn set(t: Table, rows: &mut [[u8; 16]; 8], q: Request) -> Table
     set_flags(t, &mut *rows, q.id as usize, q.a as u16)
 }
 
+// Call 18: the bits that word and mask share are taken away.
 fn clear(t: Table, rows: &mut [[u8; 16]; 8], q: Request) -> Table
     requires { ⌜ Allowed clear q t (now rows) ⌝ }
     ensures { λ r. ⌜ Does t (now (rows .entry)) (clear-effect q) r (now (rows .exit)) ⌝ }

@@ -14,11 +14,13 @@ use model::lists::MUTEX_LIST;
 use model::requests::Request;
 use model::tables::Mutex;
 use model::tables::Table;
+use table::owners;
 use table::priorities;
 use table::records;
 use table::threads;
 use table::waking;
 
+// Call 12.
 fn create_mutex(t: Table, q: Request) -> Table
     requires { ⌜ ((rows : Rows) × Allowed create-mutex q t rows) ⌝ }
     ensures { λ r. ⌜ Meets t (create-mutex-effect q) r ⌝ }
@@ -46,6 +48,7 @@ fn raise(t: Table, rows: &mut [[u8; 16]; 8], i: u8, from: u8) -> Table
     }
 }
 
+// Call 13: another's mutex is waited for, and its owner raised; else it is the running thread's, once more if it was already.
 fn claim(t: Table, rows: &mut [[u8; 16]; 8], q: Request) -> Table
     requires { ⌜ Allowed claim q t (now rows) ⌝ }
     ensures { λ r. ⌜ Does t (now (rows .entry)) (claim-effect q) r (now (rows .exit)) ⌝ }
@@ -53,7 +56,7 @@ fn claim(t: Table, rows: &mut [[u8; 16]; 8], q: Request) -> Table
     let o = q.id as usize;
     let c = t.chosen;
     let mut x = t.mutexes[o];
-    if (0 < x.depth) & (x.owner != c) {
+    if owners::is_others(x, c) {
         let u = waking::start_to_wait(t, &mut *rows, MUTEX_LIST + o, c, q.a, 0, 0);
         raise(u, &mut *rows, x.owner, c)
     } else {
@@ -64,6 +67,7 @@ fn claim(t: Table, rows: &mut [[u8; 16]; 8], q: Request) -> Table
     }
 }
 
+// To its base priority.
 fn fall(t: Table, rows: &mut [[u8; 16]; 8], i: u8) -> Table
     requires { ⌜ Given t (now rows) i ⌝ }
     requires { ⌜ thread-at (t .threads) i .base < 8 ⌝ }
@@ -94,6 +98,7 @@ fn hand_over(t: Table, rows: &mut [[u8; 16]; 8], o: usize) -> Table
     }
 }
 
+// Call 14: with the last level first the fall, then the new owner.
 fn release(t: Table, rows: &mut [[u8; 16]; 8], q: Request) -> Table
     requires { ⌜ Allowed release q t (now rows) ⌝ }
     ensures { λ r. ⌜ Does t (now (rows .entry)) (release-effect q) r (now (rows .exit)) ⌝ }

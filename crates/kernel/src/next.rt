@@ -13,7 +13,7 @@ ghost use Rattle.table.specs.Orderly.{Whole};
 use model::tables::Table;
 use model::tables::Thread;
 use model::tables::Timer;
-use table::threads;
+use table::objects;
 
 // The lesser of two counters, where 0 means that a counter doesn't run.
 fn nearer(a: u32, b: u32) -> u32
@@ -48,16 +48,14 @@ fn nearest_limit(threads: [Thread; 16]) -> u32
     least
 }
 
-// What is left of the running thread's quantum, where it counts (01, One tick, 2); else 0.
+// What is left of the running thread's quantum, where it counts (01, One tick, 2); else 0. Where nobody runs there is no quantum.
 fn quantum_left(t: Table) -> u16
     requires { ⌜ ((rows : Rows) × Whole t rows) ⌝ }
     ensures { λ r. ⌜ ((rows : Rows) → Whole t rows → r ≡ cond (quantum-counts (view t rows)) (thread (t .chosen) (view t rows) .left) 0) ⌝ }
 {
-    if 16 <= t.chosen {
-        return 0;
-    }
-    let x = threads::thread(t, t.chosen);
+    let all = t.threads;
     let lengths = t.lengths;
+    let x = objects::thread(all, t.chosen as u32);
     let p = x.current as usize;
     if (t.off == 0) & (0 < x.quantum) & (2 <= lengths[p]) {
         x.left

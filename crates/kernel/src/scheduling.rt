@@ -1,4 +1,4 @@
-// The effect of call 21.
+// The effect of call 21: asked for 0 it is off, asked for 1 it isn't.
 ghost use Rattle.model.specs.Calls.{scheduling};
 ghost use Rattle.model.specs.Effects.{scheduling-effect};
 ghost use Rattle.model.specs.Layout.{Rows};

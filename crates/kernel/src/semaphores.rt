@@ -17,6 +17,7 @@ use table::records;
 use table::threads;
 use table::waking;
 
+// Call 9.
 fn create_semaphore(t: Table, q: Request) -> Table
     requires { ⌜ ((rows : Rows) × Allowed create-semaphore q t rows) ⌝ }
     ensures { λ r. ⌜ Meets t (create-semaphore-effect q) r ⌝ }
@@ -29,6 +30,7 @@ fn create_semaphore(t: Table, q: Request) -> Table
     records::with_semaphore(t, q.id as usize, x)
 }
 
+// Call 10: a count above 0 is taken, else the running thread waits.
 fn pend(t: Table, rows: &mut [[u8; 16]; 8], q: Request) -> Table
     requires { ⌜ Allowed pend q t (now rows) ⌝ }
     ensures { λ r. ⌜ Does t (now (rows .entry)) (pend-effect q) r (now (rows .exit)) ⌝ }
@@ -59,6 +61,7 @@ fn count_up(t: Table, o: usize) -> Table
     }
 }
 
+// The first waiter is woken; with none the count goes up.
 pub fn post_semaphore(t: Table, rows: &mut [[u8; 16]; 8], o: usize) -> Table
     requires { ⌜ Whole t (now rows) ⌝ }
     requires { ⌜ o < 8 ⌝ }
@@ -73,6 +76,7 @@ pub fn post_semaphore(t: Table, rows: &mut [[u8; 16]; 8], o: usize) -> Table
     }
 }
 
+// Call 11.
 fn post(t: Table, rows: &mut [[u8; 16]; 8], q: Request) -> Table
     requires { ⌜ Allowed post q t (now rows) ⌝ }
     ensures { λ r. ⌜ Does t (now (rows .entry)) (post-effect q) r (now (rows .exit)) ⌝ }

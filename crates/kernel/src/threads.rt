@@ -43,6 +43,7 @@ fn new_thread(priority: u8, quantum: u16) -> Thread
     }
 }
 
+// Call 1: last among the stopped.
 fn create_thread(t: Table, q: Request) -> Table
     requires { ⌜ ((rows : Rows) × Allowed create-thread q t rows) ⌝ }
     ensures { λ r. ⌜ Meets t (create-thread-effect q) r ⌝ }
@@ -53,6 +54,7 @@ fn create_thread(t: Table, q: Request) -> Table
     entering::enter_tail(u, STOPPED_LIST, i)
 }
 
+// Call 2: from the stopped list to its ready tail.
 fn start(t: Table, rows: &mut [[u8; 16]; 8], q: Request) -> Table
     requires { ⌜ Allowed start q t (now rows) ⌝ }
     ensures { λ r. ⌜ Does t (now (rows .entry)) (start-effect q) r (now (rows .exit)) ⌝ }
@@ -61,6 +63,7 @@ fn start(t: Table, rows: &mut [[u8; 16]; 8], q: Request) -> Table
     waking::become_ready(t, &mut *rows, i)
 }
 
+// Call 3: from its ready list to the stopped tail.
 fn stop(t: Table, rows: &mut [[u8; 16]; 8], q: Request) -> Table
     requires { ⌜ Allowed stop q t (now rows) ⌝ }
     ensures { λ r. ⌜ Does t (now (rows .entry)) (stop-effect q) r (now (rows .exit)) ⌝ }
@@ -70,6 +73,7 @@ fn stop(t: Table, rows: &mut [[u8; 16]; 8], q: Request) -> Table
     entering::enter_tail(u, STOPPED_LIST, i)
 }
 
+// Call 4: nothing is left of the running thread.
 fn exit(t: Table, rows: &mut [[u8; 16]; 8], q: Request) -> Table
     requires { ⌜ Allowed exit q t (now rows) ⌝ }
     ensures { λ r. ⌜ Does t (now (rows .entry)) (exit-effect q) r (now (rows .exit)) ⌝ }
@@ -80,6 +84,7 @@ fn exit(t: Table, rows: &mut [[u8; 16]; 8], q: Request) -> Table
     threads::with_thread(u, i, x)
 }
 
+// Call 5: the running thread behind all others of its priority.
 fn yields(t: Table, rows: &mut [[u8; 16]; 8], q: Request) -> Table
     requires { ⌜ Allowed yield q t (now rows) ⌝ }
     ensures { λ r. ⌜ Does t (now (rows .entry)) (yield-effect q) r (now (rows .exit)) ⌝ }
@@ -87,6 +92,7 @@ fn yields(t: Table, rows: &mut [[u8; 16]; 8], q: Request) -> Table
     waking::become_ready(t, &mut *rows, t.chosen)
 }
 
+// Call 6.
 fn sleep(t: Table, rows: &mut [[u8; 16]; 8], q: Request) -> Table
     requires { ⌜ Allowed sleep q t (now rows) ⌝ }
     ensures { λ r. ⌜ Does t (now (rows .entry)) (sleep-effect q) r (now (rows .exit)) ⌝ }
@@ -108,6 +114,7 @@ fn new_current(t: Table, i: u8, base: u8) -> u8
     }
 }
 
+// Call 7: a new base, and the current priority that follows from it.
 fn set_priority(t: Table, rows: &mut [[u8; 16]; 8], q: Request) -> Table
     requires { ⌜ Allowed set-priority q t (now rows) ⌝ }
     ensures { λ r. ⌜ Does t (now (rows .entry)) (set-priority-effect q) r (now (rows .exit)) ⌝ }
@@ -119,6 +126,7 @@ fn set_priority(t: Table, rows: &mut [[u8; 16]; 8], q: Request) -> Table
     priorities::take_priority(u, &mut *rows, i, p)
 }
 
+// Call 8.
 fn set_quantum(t: Table, q: Request) -> Table
     requires { ⌜ ((rows : Rows) × Allowed set-quantum q t rows) ⌝ }
     ensures { λ r. ⌜ Meets t (set-quantum-effect q) r ⌝ }

@@ -11,7 +11,7 @@ use model::requests::Request;
 use model::tables::Table;
 use table::records;
 
-// Everything anew but the count.
+// Call 19: everything anew but the count.
 fn start_timer(t: Table, q: Request) -> Table
     requires { ⌜ ((rows : Rows) × Allowed start-timer q t rows) ⌝ }
     ensures { λ r. ⌜ Meets t (start-timer-effect q) r ⌝ }
@@ -27,6 +27,7 @@ fn start_timer(t: Table, q: Request) -> Table
     records::with_timer(t, o, x)
 }
 
+// Call 20.
 fn stop_timer(t: Table, q: Request) -> Table
     requires { ⌜ ((rows : Rows) × Allowed stop-timer q t rows) ⌝ }
     ensures { λ r. ⌜ Meets t (stop-timer-effect q) r ⌝ }

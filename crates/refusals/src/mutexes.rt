@@ -37,7 +37,7 @@ fn claim(t: Table, q: Request) -> Answer
     let numbers = fields::limit_only(q);
     let x = objects::mutex(mutexes, q.id);
     let owns = owners::owns(x, t.chosen);
-    let waits = (0 < x.depth) & !(x.owner == t.chosen);
+    let waits = owners::is_others(x, t.chosen);
     let mut due = due::nothing();
     due.object = !there;
     due.number = !numbers;

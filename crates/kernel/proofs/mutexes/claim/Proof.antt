@@ -1,6 +1,6 @@
 -- The test is the model's. Who waits has entered a list as it must, so the owner, a thread, can be raised; and a depth that the call could
 -- still raise isn't 255, which was refused as full.
-use mathlib.Core.Path.{_≡_, refl}
+use mathlib.Core.Path.{_≡_, refl, sym, _∙_}
 use mathlib.Core.Bool.{true, false, not, _&&_, true≢false}
 use Prim.Native.Nat.{ℕ, _+_, _<_, _≤_}
 use native.Mathlib.Decide.{ℕ-discrete}
@@ -75,45 +75,52 @@ module _ (s : tie.Start) where
       (leb-true (held .depth) 255 (right (is-bit (held .created) && ltb (held .owner) 16) (leb (held .depth) 255) in-range)) free
       (not-due (s .pre) 4 refl)
 
+-- the test is the model's
+waiting : (c : tie.Then1) → let s = c .before .before .before .before in claim-waits (s .args .q) (seen s) ≡ true
+unfolding view
+waiting c = sym (c .before .is-others .ensures) ∙ c .if1 .taken
+
+owning : (c : tie.Else1) → let s = c .before .before .before .before in claim-waits (s .args .q) (seen s) ≡ false
+unfolding view
+owning c = sym (c .before .is-others .ensures) ∙ c .if1 .left
+
 start-to-wait-requires : tie.Need-start-to-wait-requires
 start-to-wait-requires c κs =
-    let s = c .before .before .before .before .before .before in
+    let s = c .before .before .before .before .before in
     let h = below s in
     (record { whole = whole (s .pre); thread = running s }, omega arith)
 
 raise-requires : tie.Need-raise-requires
 unfolding view
 raise-requires c κs =
-    let s = c .before .before .before .before .before .before .before .before in
+    let s = c .before .before .before .before .before .before .before in
     (given-after {f = waits s} (c .before .start-to-wait .ensures) (owner-below s) (waits-placed s), running s)
 
 add-x : tie.Need-add-x
 unfolding view
-add-x c = record { fits = room (c .before .before .before .before .before .before) (c .before .if1 .left) }
+add-x c = record { fits = room (c .before .before .before .before .before) (owning (c .before)) }
 
 with-mutex-requires : tie.Need-with-mutex-requires
-with-mutex-requires c κs = let s = c .before .before .before .before .before .before in (whole (s .pre) .order .table, below s)
+with-mutex-requires c κs = let s = c .before .before .before .before .before in (whole (s .pre) .order .table, below s)
 
 with-result-requires : tie.Need-with-result-requires
-with-result-requires c κs = (c .with-mutex .ensures .order, running (c .before .before .before .before .before .before .before))
+with-result-requires c κs = (c .with-mutex .ensures .order, running (c .before .before .before .before .before .before))
 
 returns : tie.Need-returns
 unfolding claim-effect view
 returns c =
     let b = c .before .before .before .before in
-    let s = b .before .before .before .before .before in
-    let e : claim-waits (s .args .q) (seen s) ≡ true = b .if1 .taken in
-    same-word (claim-effect (s .args .q)) (and-then {f = waits s} (c .before .before .start-to-wait .ensures) (c .raise .ensures)) (rw e)
+    let s = b .before .before .before .before in
+    same-word (claim-effect (s .args .q)) (and-then {f = waits s} (c .before .before .start-to-wait .ensures) (c .raise .ensures)) (rw (waiting b))
 
 returns-2 : tie.Need-returns-2
 unfolding claim-effect view
 returns-2 c =
     let b = c .before .before .before in
-    let s = b .before .before .before .before .before in
-    let e : claim-waits (s .args .q) (seen s) ≡ false = b .if1 .left in
+    let s = b .before .before .before .before in
     let own : Mutex → Mutex = λ x. with-owner (s .args .t1 .chosen) (x .depth + 1) x in
     let m = rewritten-mutex (s .args .t1) (c .before .with-mutex .result) (s .args .q .id) _ own refl (c .before .with-mutex .ensures) in
-    same-word (claim-effect (s .args .q)) (does (now (s .args .rows)) (whole (s .pre) .order) (then m (c .with-result .ensures))) (rw e)
+    same-word (claim-effect (s .args .q)) (does (now (s .args .rows)) (whole (s .pre) .order) (then m (c .with-result .ensures))) (rw (owning b))
 
 pub claim-spec : {M : Type 1} → statement M
 claim-spec =
@@ -122,6 +129,7 @@ claim-spec =
     (λ c. search needs)
     (λ c. search needs)
     (λ c. below (c .before))
+    (λ c κs. search needs)
     (λ c. search needs)
     start-to-wait-requires
     raise-requires

@@ -1,14 +1,12 @@
--- A ready list is as long as stands beside its row, so the code's test is the model's; who isn't a thread has nothing left.
-use mathlib.Core.Path.{_≡_, refl, ap}
+-- A ready list is as long as stands beside its row, so the code's test is the model's, of the record that the id names.
+use mathlib.Core.Path.{_≡_, ap}
 use mathlib.Core.Bool.{Bool, true, false, cond, _&&_}
-use Prim.Native.Nat.{ℕ, _<_, _≤_}
-use native.Mathlib.Omega.{arith}
+use Prim.Native.Nat.{ℕ, _<_}
 use lib.Dec.{eqb, ltb, leb}
-use lib.ListN.{getD, List·getD-eq-default}
+use lib.ListN.{getD}
 use Rattle.rows.proofs.Rows.{length-at}
 use Rattle.model.specs.declared.tables.Thread.{Thread}
 use Rattle.model.specs.declared.tables.Table.{Table}
-use Rattle.model.specs.State.{absent-thread}
 use Rattle.model.specs.Parts.{thread}
 use Rattle.model.specs.Tick.{quantum-counts}
 use Rattle.model.specs.Layout as layout
@@ -38,30 +36,17 @@ module _ {t : Table} {rows : layout.Rows} (w : Whole t rows) where
   unfolding view
   left-by-test b x e h = rw (same-test, ← e, h)
 
-  left-of-nobody : 16 ≤ t .chosen → 0 ≡ cond (quantum-counts (view t rows)) (thread (t .chosen) (view t rows) .left) 0
-  unfolding view
-  left-of-nobody h =
-      rw (List·getD-eq-default (t .threads) absent-thread {n = t .chosen} (omega (arith, w .order .table .threads)))
-      (same-either-way 0 (quantum-counts (view t rows)))
-    where
-      same-either-way : (n : ℕ) (b : Bool) → n ≡ cond b n n
-      same-either-way n true = refl
-      same-either-way n false = refl
+array-read-if1 : tie.Need-array-read-if1
+array-read-if1 c =
+    let x = c .before .before .before in
+    rw (x .thread .ensures) (priority-below (x .before .before .before .before .pre .1))
 
 returns : tie.Need-returns
-returns c rows w = left-of-nobody w (c .if1 .taken)
-
-array-read-if2 : tie.Need-array-read-if2
-array-read-if2 c =
-    let x = c .before .before .before .before .thread in
-    rw (x .ensures) (priority-below (c .before .before .before .before .before .before .before .pre .1))
+returns c rows w = let x = c .before .before .before .before .thread in left-by-test w true (x .result) (x .ensures) (c .if1 .taken)
 
 returns-2 : tie.Need-returns-2
-returns-2 c rows w = let x = c .before .before .before .before .before .thread in left-by-test w true (x .result) (x .ensures) (c .if2 .taken)
-
-returns-3 : tie.Need-returns-3
-returns-3 c rows w = let x = c .before .before .before .before .before .thread in left-by-test w false (x .result) (x .ensures) (c .if2 .left)
+returns-2 c rows w = let x = c .before .before .before .before .thread in left-by-test w false (x .result) (x .ensures) (c .if1 .left)
 
 pub quantum-left-spec : {M : Type 1} → statement M
 quantum-left-spec =
-    tie.close (tie.spec returns (λ c κs. search needs) (λ c. search needs) array-read-if2 returns-2 returns-3)
+    tie.close (tie.spec (λ c. search needs) (λ c κs. search needs) (λ c. search needs) array-read-if1 returns returns-2)

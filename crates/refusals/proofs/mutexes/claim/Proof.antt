@@ -9,12 +9,12 @@ returns : tie.Need-returns
 unfolding answers view
 returns c rows =
     let n = c .before .before .before .before in
-    let o = n .before .before .before .before in
-    let x = o .before in
+    let x = n .before .before .before in
     rw (
       c .first .ensures,
       n .nothing .ensures,
-      o .owns .ensures,
+      n .before .is-others .ensures,
+      n .before .before .owns .ensures,
       x .mutex .ensures,
       x .before .limit-only .ensures,
       x .before .before .mutex-there .ensures,
@@ -23,4 +23,12 @@ returns c rows =
 pub claim-spec : {M : Type 1} → statement M
 claim-spec =
     tie.close
-    (tie.spec (λ c κs. search needs) (λ c κs. search needs) (λ c κs. search needs) (λ c κs. search needs) (λ c κs. search needs) (λ c κs. search needs) returns)
+    (tie.spec
+    (λ c κs. search needs)
+    (λ c κs. search needs)
+    (λ c κs. search needs)
+    (λ c κs. search needs)
+    (λ c κs. search needs)
+    (λ c κs. search needs)
+    (λ c κs. search needs)
+    returns)
