@@ -12,6 +12,7 @@ use Rattle.examples.specs.Errors.{errors}
 use Rattle.examples.specs.Refusals.{refusals}
 use Rattle.examples.specs.Effects.{effects}
 use Rattle.examples.specs.Ticks.{ticking}
+use Rattle.examples.specs.WrongTicks.{p7-tells-apart}
 use Rattle.examples.specs.Edges.{edges}
 use Rattle.examples.specs.Replays.{plays-right, replays}
 use Rattle.examples.specs.Busy.{busy}
@@ -26,6 +27,11 @@ cases-hold = refl
 pub edges-hold : every right edges ≡ true
 unfolding model edges errors refusals effects ticking right steps-right look
 edges-hold = refl
+
+-- a tick with its steps in another order fails P7
+pub p7-shuts-out : p7-tells-apart ≡ true
+unfolding model p7-tells-apart
+p7-shuts-out = refl
 
 pub replays-hold : every plays-right replays ≡ true
 unfolding model replays plays-right

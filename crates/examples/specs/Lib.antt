@@ -11,3 +11,4 @@ pub mod Busy
 pub mod Damages
 pub mod Stored
 pub mod Waits
+pub mod WrongTicks

@@ -12,3 +12,4 @@ pub mod Kernel
 pub mod Layout
 pub mod Replay
 pub mod Promises
+pub mod Stored

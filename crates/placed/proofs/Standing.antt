@@ -1,21 +1,32 @@
--- What follows from where threads stand: who is off all lists leaves room on each, and who leaves is off them. Leaving keeps it, and so
--- does a change of a record but for the current priority of who is ready.
-use mathlib.Core.Path.{_≡_, _∙_}
+-- What follows from where threads stand: who is on a list is a thread, who is off all lists leaves room on each, and who leaves is off
+-- them. Leaving keeps it, and so do choosing and a change of a record but for the current priority of who is ready.
+use mathlib.Core.Path.{_≡_, refl, _∙_}
+use mathlib.Core.Bool.{Bool, true, false, cond, not, _&&_}
 use mathlib.Core.List.{List, _∷_}
 use Prim.Native.Nat.{ℕ, _<_, _≤_}
-use native.Mathlib.Decide.{ℕ-discrete}
+use native.Mathlib.Decide.{ℕ-discrete, decLt}
 use native.Mathlib.Omega.{arith}
 use borrow.Author.Tests.{eq-eqb, ne-eqb}
+use lib.Dec.{eqb}
 use lib.ListN.{length, length-map}
 use Rattle.sequences.specs.Lists.{count, count-all, without}
 use Rattle.sequences.proofs.Members.{counted-left}
 use Rattle.sequences.proofs.Counts.{count-all-at, count-all-gone, count-all-kept, few}
 use Rattle.sequences.proofs.Places.{length-alter, alter-keeps, alter-holds}
 use Rattle.model.specs.declared.tables.Thread.{Thread}
-use Rattle.model.specs.State.{State, absent-thread}
-use Rattle.model.specs.Parts.{thread, ready-list, list, alter-thread}
-use Rattle.model.specs.Words.{leave}
+use Rattle.model.specs.State.{State, scheduling-on, absent-thread}
+use Rattle.model.specs.Parts.{thread, ready-list, list, with-chosen, alter-thread, refilled}
+use Rattle.model.specs.Words.{leave, choice, choose}
 use Rattle.placed.specs.Placed.{Placed, standing}
+
+-- ---- on a list
+
+pub standing-below : {s : State} → Placed s → (i : ℕ) → 0 < standing i s → i < 16
+standing-below w i h =
+    elim (decLt i 16) [
+      | yes k ↦ k
+      | no k ↦ absurd (omega (arith, w .known i (omega arith)))
+    ]
 
 -- ---- leaving all lists
 
@@ -79,6 +90,14 @@ alter-placed i g s same w =
     still : (x : ℕ) → thread x (alter-thread i g s) .current ≡ thread x s .current
     still x = alter-keeps (λ (t : Thread). t .current) g same i (s .threads) x absent-thread
 
+pub choose-placed : (s : State) → Placed s → Placed (choose s)
+unfolding choose
+choose-placed s w = by-test (scheduling-on s && not (eqb (choice s) (s .chosen)))
+  where
+    by-test : (b : Bool) → Placed (cond b (with-chosen (choice s) (alter-thread (choice s) refilled s)) s)
+    by-test true = unmoved-placed refl refl refl (alter-placed (choice s) refilled s (λ t. refl) w)
+    by-test false = w
+
 -- ---- any change of the record of a thread that isn't ready
 
 pub unready-placed : (i : ℕ) (g : Thread → Thread) (s : State) → g (thread i s) .current < 8 → count-all i (s .ready) ≡ 0 → Placed s
@@ -97,6 +116,17 @@ unready-placed i g s below off w =
     }
 
 -- ---- room
+
+-- no list is longer than there are threads
+module _ {s : State} (w : Placed s) where
+  short : (l : List ℕ) → ((x : ℕ) → count x l ≤ standing x s) → length l ≤ 16
+  short l h = few 16 l (λ x. omega (arith, h x, w .once x)) (λ x k. omega (arith, h x, w .known x k))
+
+  pub short-ready : (p : ℕ) → length (ready-list p s) ≤ 16
+  short-ready p = short (ready-list p s) (λ x. omega (arith, count-all-at x (s .ready) p))
+
+  pub short-list : (j : ℕ) → length (list j s) ≤ 16
+  short-list j = short (list j s) (λ x. omega (arith, count-all-at x (s .waits) j))
 
 module _ {s : State} (w : Placed s) (i : ℕ) (below : i < 16) (off : standing i s ≡ 0) where
   -- it and a list that it isn't on are different threads

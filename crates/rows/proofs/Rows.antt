@@ -27,7 +27,7 @@ drop-take k m n l e h =
     ap (λ (j : ℕ). drop k (take j l)) (sym e) ∙ ap (drop k) (take-add k m l) ∙ drop-at (take k l) (take m (drop k l)) k (length-take-le k l h)
 
 -- a list and blanks behind it are a row that holds the list
-held : (places n : ℕ) (ids l : List ℕ) → ids ≡ l ++ blanks (places - n) → length l ≡ n → n ≤ places → Held places ids n l
+pub held : (places n : ℕ) (ids l : List ℕ) → ids ≡ l ++ blanks (places - n) → length l ≡ n → n ≤ places → Held places ids n l
 held places n ids l e h k =
     record {
       row =

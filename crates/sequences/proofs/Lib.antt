@@ -16,4 +16,5 @@ pub mod Order
 pub mod InOrder
 pub mod Repeating
 pub mod Counters
+pub mod Walks
 pub mod Jumping

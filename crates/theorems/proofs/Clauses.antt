@@ -26,9 +26,10 @@ use Rattle.model.specs.Sound.{conditions-unmet, flag-waiters-masked, timers-wit
 use Rattle.model.specs.Sound.{sleepers-limited, others-unlimited, others-maskless, waits-without-result, quanta-fit}
 use Rattle.model.specs.Sound.{absent-semaphores-zero, absent-mutexes-zero, absent-flags-zero, clauses, sound-but-choice}
 use Rattle.placed.specs.Placed.{Placed, standing}
+use Rattle.placed.proofs.Standing.{standing-below}
 use Rattle.placed.proofs.Sounds.{clause, size, field, sound-placed}
 use Rattle.theorems.specs.Lawful.{ThreadFits, SemaphoreFits, MutexFits, FlagsFits, TimerFits, CurrentFits, Objects, Idle, Sleeping, Pending, Claiming, Awaiting, Lawful}
-use Rattle.theorems.proofs.Readings.{implied, standing-below, waiting-there, waiting-place}
+use Rattle.theorems.proofs.Readings.{implied, waiting-there, waiting-place}
 
 -- an object that isn't created is all zero, and nobody waits for it
 module _ (created : ℕ) (zeros : Bool) (l : List ℕ) (clause : (eqb created 0 implies zeros && not (ltb 0 (length l))) ≡ true) where

@@ -1,9 +1,10 @@
 -- The distance worked out from the records is 1 exactly where the coming tick is a wake-up. Where no quantum and no timer ends, the limits
 -- are still those of the tick's start when their turn comes.
 use mathlib.Core.Path.{_≡_, refl, _∙_, ap}
-use mathlib.Core.Bool.{Bool, true, false, cond, _&&_, _||_}
+use mathlib.Core.Bool.{Bool, true, false, _||_}
 use mathlib.Core.List.{List}
 use Prim.Native.Nat.{ℕ}
+use native.Mathlib.Omega.{arith}
 use lib.Dec.{eqb}
 use lib.ListN.{length}
 use Rattle.sequences.specs.Lists.{nearer, nearest}
@@ -11,21 +12,16 @@ use Rattle.sequences.proofs.Counters.{nearer-one, nearest-one}
 use Rattle.model.specs.declared.tables.Thread.{Thread}
 use Rattle.model.specs.declared.tables.Timer.{Timer}
 use Rattle.model.specs.State.{State, absent-thread, unused-timer, thread-count, timer-count}
-use Rattle.model.specs.Parts.{thread}
 use Rattle.model.specs.Sound.{sound}
 use Rattle.model.specs.Tick.{quantum-counts, quantum-ends, before-limits, timer-ends, limit-ends, wakes}
 use Rattle.model.specs.Time.{next}
 use Rattle.theorems.proofs.Choosing.{sound-steady}
-use Rattle.theorems.proofs.Skips.{running, times, limits, spent-limits}
+use Rattle.theorems.proofs.Skips.{running, running-at, times, limits, spent-limits}
 use Rattle.theorems.proofs.Quiet.{half-way, many-half-way, before-limits-quiet}
 
 quantum-ends-one : (s : State) → quantum-ends s ≡ eqb (running s) 1
 unfolding quantum-ends
-quantum-ends-one s = by-test (quantum-counts s)
-  where
-    by-test : (b : Bool) → b && eqb (thread (s .chosen) s .left) 1 ≡ eqb (cond b (thread (s .chosen) s .left) 0) 1
-    by-test true = refl
-    by-test false = refl
+quantum-ends-one s = running-at s 1 (omega arith)
 
 timer-ends-one : (s : State) → length (s .timers) ≡ timer-count → timer-ends s ≡ eqb (nearest (times s)) 1
 unfolding timer-ends

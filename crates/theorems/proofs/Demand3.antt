@@ -54,7 +54,7 @@ module _ (s : State) (whole : sound s ≡ true) where
   unfolding wakeups
   one-report = ap (λ (o : Outcome). o .report .wakeups) (advance-done s whole 1 refl) ∙ add-zero (cond (wakes s) 1 0)
 
-ticked : (n : ℕ) (s : State) → sound s ≡ true → one-by-one n s ≡ after-ticks n s
+pub ticked : (n : ℕ) (s : State) → sound s ≡ true → one-by-one n s ≡ after-ticks n s
 unfolding one-by-one ticks
 ticked zero s whole = refl
 ticked (suc n) s whole = ap (one-by-one n) (one-tick s whole) ∙ ticked n (tick s) (tick-sound s whole)

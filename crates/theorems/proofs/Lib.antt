@@ -24,12 +24,18 @@ pub mod Accepting
 pub mod Heads
 pub mod Undisturbed
 -- many ticks at once
+pub mod Retimed
 pub mod Clock
 pub mod Turns
 pub mod Skips
 pub mod Quiet
 pub mod Counting
 pub mod Jumps
+pub mod Leaping
+pub mod LeapPlaced
+pub mod LeapKeeps
+pub mod Spending
+pub mod Spanned
 -- answers
 pub mod Lowest
 pub mod Replies

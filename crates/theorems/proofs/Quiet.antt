@@ -7,7 +7,6 @@ use native.Mathlib.Omega.{arith}
 use borrow.Author.Tests.{eq-eqb}
 use lib.Dec.{eqb}
 use lib.ListN.{length}
-use Rattle.sequences.proofs.Places.{length-alter}
 use Rattle.sequences.proofs.InOrder.{in-order-map}
 use Rattle.sequences.proofs.Tests.{left, neither}
 use Rattle.model.specs.declared.tables.Thread.{Thread}
@@ -17,8 +16,9 @@ use Rattle.model.specs.Parts.{with-clock, with-threads, with-timers}
 use Rattle.model.specs.Words.{settle, choice, choose}
 use Rattle.model.specs.Sound.{sound}
 use Rattle.model.specs.Tick.{wrap, clock-step, quantum-counts, quantum-ends, quantum-step, timer-tick, timer-step, timer-ends, limit-tick, limit-step, limit-ends, before-limits, tick, wakes}
-use Rattle.theorems.specs.Skip.{left-less, limit-less, time-less, skip, still, still-tick, spent}
+use Rattle.theorems.specs.Skip.{limit-less, time-less, skip, still, still-tick, spent}
 use Rattle.theorems.proofs.Choosing.{sound-steady, chosen-choice}
+use Rattle.theorems.proofs.Skips.{length-spent}
 
 -- ---- the steps
 
@@ -63,11 +63,7 @@ half-way s =
     (with-threads (spent (quantum-counts s) 1 (s .chosen) (s .threads)) (with-timers (map (time-less 1) (s .timers)) s))
 
 pub many-half-way : (s : State) → sound s ≡ true → length (half-way s .threads) ≡ thread-count
-many-half-way s whole = by-test (quantum-counts s) ∙ sound-steady s whole .lawful .placed .threads
-  where
-    by-test : (b : Bool) → length (spent b 1 (s .chosen) (s .threads)) ≡ length (s .threads)
-    by-test true = length-alter (s .chosen) (left-less 1) (s .threads)
-    by-test false = refl
+many-half-way s whole = length-spent (quantum-counts s) 1 (s .chosen) (s .threads) ∙ sound-steady s whole .lawful .placed .threads
 
 pub before-limits-quiet : (s : State) → sound s ≡ true → quantum-ends s ≡ false → timer-ends s ≡ false → before-limits s ≡ half-way s
 unfolding before-limits clock-step quantum-counts quantum-ends timer-ends

@@ -15,7 +15,7 @@ use Rattle.model.specs.State.{State, semaphore-count, mutex-count, flags-count,
 use Rattle.model.specs.Parts.{list, thread, semaphore, flag-object}
 use Rattle.model.specs.Ranges.{_implies_}
 use Rattle.model.specs.Words.{is-waiting}
-use Rattle.placed.specs.Placed.{Placed, standing}
+use Rattle.placed.specs.Placed.{Placed}
 
 -- ---- an implication
 
@@ -63,16 +63,9 @@ semaphore-below o s many there = omega (arith, place-below (λ (x : Semaphore). 
 pub flags-below : (o : ℕ) (s : State) → length (s .flags) ≡ flags-count → flag-object o s .created ≡ 1 → o < flags-count
 flags-below o s many there = omega (arith, place-below (λ (x : Flags). x .created) absent-flags (s .flags) refl o (omega arith))
 
--- ---- who stands on a list, and who waits
+-- ---- who waits
 
 module _ {s : State} (w : Placed s) (i : ℕ) where
-  pub standing-below : 0 < standing i s → i < 16
-  standing-below h =
-      elim (decLt i 16) [
-        | yes k ↦ k
-        | no k ↦ absurd (omega (arith, w .known i (omega arith)))
-      ]
-
   all-waits : among-any i (take 16 (drop 2 (s .waits))) ≡ is-waiting i s
   all-waits = ap (among-any i) (take-all 16 (drop 2 (s .waits)) (omega (arith, length-drop 2 (s .waits), w .waits)))
 

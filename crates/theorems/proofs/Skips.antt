@@ -2,29 +2,40 @@
 -- skips add up; the lists and the choice stay.
 use mathlib.Core.Path.{_≡_, refl, sym, _∙_, ap, ap₂, fun-ext}
 use mathlib.Core.Bool.{Bool, true, false, cond, _&&_}
-use mathlib.Core.List.{List, [], map, map-id, map-map}
-use Prim.Native.Nat.{ℕ, _+_, _-_}
+use mathlib.Core.List.{List, map, map-id, map-map}
+use Prim.Native.Nat.{ℕ, _+_, _-_, _<_}
 use native.Mathlib.Nat.{zero-sub, sub-zero, sub-add-eq}
-use lib.Dec.{leb, ltb}
+use native.Mathlib.Omega.{arith}
+use borrow.Author.Tests.{ne-eqb}
+use lib.Dec.{eqb}
 use lib.ListN.{length, getD}
 use Rattle.sequences.specs.Lists.{alter, nearer, nearest}
 use Rattle.sequences.specs.Jumps.{Free}
-use Rattle.sequences.proofs.Places.{alter-keeps, alter-twice, alter-none}
+use Rattle.sequences.proofs.Places.{length-alter, alter-keeps, alter-twice, alter-none}
 use Rattle.sequences.proofs.Changes.{alter-kept, map-keeps, alter-changes, alter-mapped}
 use Rattle.sequences.proofs.Counters.{less, nearer-free, nearer-less, nearest-less}
 use Rattle.model.specs.declared.tables.Thread.{Thread}
 use Rattle.model.specs.declared.tables.Timer.{Timer}
-use Rattle.model.specs.State.{State, scheduling-on, absent-thread}
+use Rattle.model.specs.State.{State, absent-thread}
 use Rattle.model.specs.Parts.{thread, with-threads, with-timers, with-left, with-limit, with-time}
 use Rattle.model.specs.Tick.{quantum-counts}
 use Rattle.model.specs.Time.{next}
 use Rattle.theorems.specs.Skip.{left-less, limit-less, time-less, spent, skip}
+use Rattle.theorems.proofs.Retimed.{counts-alike}
 
 -- ---- the counters
 
 -- the quantum of the running thread, 0 where it doesn't count
 abbrev pub running : State → ℕ
 running s = cond (quantum-counts s) (thread (s .chosen) s .left) 0
+
+-- it ends in the tick with that number, where it counts
+pub running-at : (s : State) (gap : ℕ) → 0 < gap → quantum-counts s && eqb (thread (s .chosen) s .left) gap ≡ eqb (running s) gap
+running-at s gap some = by-test (quantum-counts s)
+  where
+    by-test : (b : Bool) → b && eqb (thread (s .chosen) s .left) gap ≡ eqb (cond b (thread (s .chosen) s .left) 0) gap
+    by-test true = refl
+    by-test false = sym (ne-eqb 0 gap (λ e. omega arith))
 
 abbrev pub times : State → List ℕ
 times s = map (λ (t : Timer). t .left) (s .timers)
@@ -44,6 +55,10 @@ pub spent-limits : (counts : Bool) (m c : ℕ) (ts : List Thread)
 spent-limits true m c ts = alter-kept (λ (t : Thread). t .limit) (left-less m) (λ t. refl) c ts
 spent-limits false m c ts = refl
 
+pub length-spent : (counts : Bool) (m c : ℕ) (ts : List Thread) → length (spent counts m c ts) ≡ length ts
+length-spent true m c ts = length-alter c (left-less m) ts
+length-spent false m c ts = refl
+
 skip-keeps : (p : Thread → ℕ) (m : ℕ) (s : State) (i : ℕ)
     → ((t : Thread) → p (left-less m t) ≡ p t) → ((t : Thread) → p (limit-less m t) ≡ p t) → p (thread i (skip m s)) ≡ p (thread i s)
 unfolding skip
@@ -57,8 +72,7 @@ skip-keeps p m s i left limit =
 pub skip-counts : (m : ℕ) (s : State) → quantum-counts (skip m s) ≡ quantum-counts s
 unfolding quantum-counts skip
 skip-counts m s =
-    ap₂ (λ (quantum current : ℕ). scheduling-on s && ltb 0 quantum && leb 2 (length (getD (s .ready) current [])))
-    (skip-keeps (λ (t : Thread). t .quantum) m s (s .chosen) (λ t. refl) (λ t. refl))
+    counts-alike (skip m s .threads) s (skip-keeps (λ (t : Thread). t .quantum) m s (s .chosen) (λ t. refl) (λ t. refl))
     (skip-keeps (λ (t : Thread). t .current) m s (s .chosen) (λ t. refl) (λ t. refl))
 
 -- ---- what is less, and the distance with it
@@ -106,13 +120,13 @@ time-none : time-less 0 ≡ (λ (t : Timer). t)
 time-none = fun-ext (λ t. ap (λ x. with-time x (t .count) t) (sub-zero (t .left)))
 
 module _ (a b : ℕ) where
-  left-more : (λ (t : Thread). left-less b (left-less a t)) ≡ left-less (a + b)
+  pub left-more : (λ (t : Thread). left-less b (left-less a t)) ≡ left-less (a + b)
   left-more = fun-ext (λ t. ap (λ x. with-left x t) (sym (sub-add-eq (t .left) a b)))
 
-  limit-more : (λ (t : Thread). limit-less b (limit-less a t)) ≡ limit-less (a + b)
+  pub limit-more : (λ (t : Thread). limit-less b (limit-less a t)) ≡ limit-less (a + b)
   limit-more = fun-ext (λ t. ap (λ x. with-limit x t) (sym (sub-add-eq (t .limit) a b)))
 
-  time-more : (λ (t : Timer). time-less b (time-less a t)) ≡ time-less (a + b)
+  pub time-more : (λ (t : Timer). time-less b (time-less a t)) ≡ time-less (a + b)
   time-more = fun-ext (λ t. ap (λ x. with-time x (t .count) t) (sym (sub-add-eq (t .left) a b)))
 
 spent-none : (counts : Bool) (c : ℕ) (ts : List Thread) → spent counts 0 c ts ≡ ts

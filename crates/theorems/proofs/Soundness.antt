@@ -27,9 +27,10 @@ use Rattle.model.specs.Sound.{conditions-unmet, flag-waiters-masked, timers-wit
 use Rattle.model.specs.Sound.{sleepers-limited, others-unlimited, others-maskless, waits-without-result, quanta-fit}
 use Rattle.model.specs.Sound.{absent-semaphores-zero, absent-mutexes-zero, absent-flags-zero, clauses, sound-but-choice}
 use Rattle.placed.specs.Placed.{standing}
+use Rattle.placed.proofs.Standing.{standing-below}
 use Rattle.theorems.specs.Lawful.{Idle, Lawful}
 use Rattle.theorems.proofs.Fits.{range}
-use Rattle.theorems.proofs.Readings.{implies-from, by-list, standing-below, waiting-there, waiting-place, semaphore-below, flags-below}
+use Rattle.theorems.proofs.Readings.{implies-from, by-list, waiting-there, waiting-place, semaphore-below, flags-below}
 
 -- an object that isn't created is all zero, and nobody waits for it
 absent-clear : (created : ℕ) (zeros : Bool) (l : List ℕ) → (created ≡ 0 → zeros ≡ true) → ((x : ℕ) → 0 < count x l → created ≡ 1)

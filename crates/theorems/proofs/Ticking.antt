@@ -57,6 +57,13 @@ not-absent-there {k} {s} w i n some =
 
 -- ---- 2
 
+pub counts-quantum : (s : State) → quantum-counts s ≡ true → 0 < thread (s .chosen) s .quantum
+unfolding quantum-counts
+counts-quantum s e =
+    let t = thread (s .chosen) s in
+    ltb-true 0 (t .quantum)
+    (right (scheduling-on s) (ltb 0 (t .quantum)) (left (scheduling-on s && ltb 0 (t .quantum)) (leb 2 (length (ready-list (t .current) s))) e))
+
 module _ (s : State) (steady : Steady s) where
   w : Lawful nobody s
   w = steady .lawful
@@ -64,24 +71,17 @@ module _ (s : State) (steady : Steady s) where
   abbrev c : ℕ
   c = s .chosen
 
-  counts-quantum : quantum-counts s ≡ true → 0 < thread c s .quantum
-  unfolding quantum-counts
-  counts-quantum e =
-      ltb-true 0 (thread c s .quantum)
-      (right (scheduling-on s) (ltb 0 (thread c s .quantum))
-      (left (scheduling-on s && ltb 0 (thread c s .quantum)) (leb 2 (length (ready-list (thread c s .current) s))) e))
-
   -- nobody has no quantum, so that who has one runs
   counts-ready : quantum-counts s ≡ true → 0 < count-all c (s .ready)
   counts-ready e =
       ⊎-elim
       (λ (n : s .chosen ≡ nobody).
-      absurd (omega (arith, there-below (w .placed) c (not-absent-there w c 3 (counts-quantum e)))))
+      absurd (omega (arith, there-below (w .placed) c (not-absent-there w c 3 (counts-quantum s e)))))
       (λ (h : 0 < count-all c (s .ready)). h) (steady .stands)
 
   ended : quantum-counts s ≡ true → Steps (λ x. become-ready c (alter-thread c refilled x)) s
   ended e =
-      let there = not-absent-there w c 3 (counts-quantum e) in
+      let there = not-absent-there w c 3 (counts-quantum s e) in
       let idle = ready-idle w c (counts-ready e) in (
         made-ready c s w there refilled
             (fits-quantum (w .threads c) (thread c s .quantum) (thread c s .quantum) (range (w .threads c) 3) (range (w .threads c) 3) (omega arith) (λ h. h) (not-absent there))
@@ -92,8 +92,8 @@ module _ (s : State) (steady : Steady s) where
 
   counted : quantum-counts s ≡ true → eqb (thread c s .left) 1 ≡ false → Steps (alter-thread c (λ t. with-left (t .left - 1) t)) s
   counted e more =
-      let there = not-absent-there w c 3 (counts-quantum e) in
-      let some = w .threads c .some-left (counts-quantum e) in
+      let there = not-absent-there w c 3 (counts-quantum s e) in
+      let some = w .threads c .some-left (counts-quantum s e) in
       let two : 0 < thread c s .left - 1 = omega (arith, eqb-false (thread c s .left) 1 more) in (
         altered-lawful nobody c (λ t. with-left (t .left - 1) t) s w
             (fits-quantum (w .threads c) (thread c s .quantum) (thread c s .left - 1) (range (w .threads c) 3)

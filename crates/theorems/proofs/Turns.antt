@@ -2,8 +2,8 @@
 -- turns of lower ids leave it alone. An action changes no timer, and waking a thread changes no other thread's record.
 use mathlib.Core.Path.{_≡_, refl, ap, _∙_}
 use mathlib.Core.Bool.{Bool, true, false, cond}
-use mathlib.Core.List.{List, [], _∷_}
-use Prim.Native.Nat.{ℕ, zero, suc, _<_}
+use mathlib.Core.List.{List}
+use Prim.Native.Nat.{ℕ, _<_}
 use native.Mathlib.Omega.{arith}
 use lib.Dec.{eqb}
 use lib.ListN.{getD}
@@ -15,8 +15,9 @@ use Rattle.model.specs.declared.tables.Timer.{Timer}
 use Rattle.model.specs.State.{State, absent-thread, unused-timer}
 use Rattle.model.specs.Parts.{thread, timer}
 use Rattle.model.specs.Words.{leave, enter-ready, become-ready, wake}
-use Rattle.model.specs.Effects.{post-to, post-semaphore, wake-each, change-word, set-flags, act}
+use Rattle.model.specs.Effects.{act}
 use Rattle.model.specs.Tick.{timer-tick, limit-tick, clock-step, quantum-counts, quantum-ends, quantum-step}
+use Rattle.theorems.proofs.Retimed.{but-threads, act-retimed}
 
 -- either of two states has the same part
 cond-keeps : {A : Type 0} (part : State → A) (b : Bool) {x y : State} {a : A} → part x ≡ a → part y ≡ a → part (cond b x y) ≡ a
@@ -25,21 +26,8 @@ cond-keeps part false p q = q
 
 -- ---- timers
 
-post-to-timers : (o : ℕ) (l : List ℕ) (s : State) → post-to o l s .timers ≡ s .timers
-unfolding post-to wake become-ready enter-ready leave
-post-to-timers o [] s = refl
-post-to-timers o (i ∷ l) s = refl
-
-wake-each-timers : (word : ℕ) (l : List ℕ) (s : State) → wake-each word l s .timers ≡ s .timers
-unfolding wake-each wake become-ready enter-ready leave
-wake-each-timers word [] s = refl
-wake-each-timers word (i ∷ l) s = wake-each-timers word l _
-
 pub act-timers : (kind object mask : ℕ) (s : State) → act kind object mask s .timers ≡ s .timers
-unfolding act post-semaphore set-flags change-word
-act-timers zero object mask s = refl
-act-timers (suc zero) object mask s = post-to-timers object _ s
-act-timers (suc (suc kind)) object mask s = wake-each-timers _ _ _
+act-timers kind object mask s = ap (λ (x : State). x .timers) (act-retimed (but-threads (λ n. n) (λ ts. s .timers)) kind object mask s)
 
 timer-other : (o k : ℕ) → k < o → (s : State) → timer o (timer-tick k s) ≡ timer o s
 unfolding timer-tick
