@@ -17,12 +17,12 @@ use Rattle.model.specs.Answers.{Given, _when_, accepted, first-due}
 use Rattle.model.specs.Calls.{Call, answers, nobody-runs}
 use Rattle.model.specs.Layout as layout
 use Rattle.model.specs.Layout.{view, orderly, sound-table}
+use Rattle.placed.proofs.Standing.{standing-below}
 use Rattle.table.specs.Orderly as table
 use Rattle.table.specs.Orderly.{Whole}
 use Rattle.table.proofs.Stored.{sound-whole}
 use Rattle.theorems.specs.Lawful.{Steady}
 use Rattle.theorems.proofs.Choosing.{sound-steady}
-use Rattle.theorems.proofs.Readings.{standing-below}
 use Rattle.theorems.proofs.Passed.{refuses, passed}
 use Rattle.theorems.proofs.Running.{running-ready}
 use Rattle.refusals.proofs.InRange.{there-below}

@@ -2,4 +2,3 @@ pub mod Facts
 pub mod MeetingLaws
 pub mod Numbered
 pub mod Replying
-pub mod Unchanged

@@ -8,6 +8,7 @@ use Rattle.sequences.specs.Steps.{wakeups}
 use Rattle.sequences.proofs.Tests.{left, right}
 use Rattle.model.specs.declared.answers.Answer.{Answer}
 use Rattle.model.specs.declared.answers.Answer.the-variants.{Unsound}
+use Rattle.model.specs.declared.answers.Reply.{Reply}
 use Rattle.model.specs.declared.requests.Request.{Request}
 use Rattle.model.specs.declared.tables.Table.{Table}
 use Rattle.model.specs.State.{State}
@@ -50,17 +51,18 @@ module _ (t : Table) (rows : layout.Rows) (q : Request) (whole : sound-table t r
     told : eqb (number a) 1 ≡ false
     told = rw given (judge-other (numbered (q .call)) q s)
 
-    no-ticks : (q .call ≡ 22 → ⊥) → span a q ≡ 0
-    no-ticks other = rw (ne-eqb (q .call) 22 other, and-false (accepted a)) refl
+    pub no-ticks : (q .call ≡ 22 → ⊥) → 0 ≡ wakeups-in (span a q) s
+    unfolding wakeups
+    no-ticks other = rw (ne-eqb (q .call) 22 other, and-false (accepted a))
 
-    whole-outcome : (q .call ≡ 22 → ⊥) → call s q ≡ outcome a 0 (view r after)
-    unfolding call wakeups
-    whole-outcome other =
+    whole-outcome : call s q ≡ outcome a (wakeups-in (span a q) s) (view r after)
+    unfolding call
+    whole-outcome =
         ap (λ (x : Answer). outcome x (wakeups-in (span x q) s) (next-state x q s)) its-answer
-        ∙ ap (λ (n : ℕ). outcome a (wakeups-in n s) (next-state a q s)) (no-ticks other)
-        ∙ ap (outcome a 0) (sym (d .view))
+        ∙ ap (outcome a (wakeups-in (span a q) s)) (sym (d .view))
 
-    pub replied : (q .call ≡ 22 → ⊥) → {n : ℕ} → n ≡ next (view r after)
-        → record { reply = record { report = record { answer = a; chosen = r .chosen; clock = r .clock; wakeups = 0; next = n }; table = r }; rows = after } ≡ laid (call s q)
+    pub replied : {x : Reply} {wakeups n : ℕ} → wakeups ≡ wakeups-in (span a q) s → n ≡ next (view r after)
+        → x ≡ record { report = record { answer = a; chosen = r .chosen; clock = r .clock; wakeups = wakeups; next = n }; table = r }
+        → record { reply = x; rows = after } ≡ laid (call s q)
     unfolding view
-    replied other e = rw (whole-outcome other, told, laid-table (d .order), laid-rows (d .order), e)
+    replied woken e x = rw (x, whole-outcome, told, laid-table (d .order), laid-rows (d .order), woken, e)

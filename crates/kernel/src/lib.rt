@@ -78,6 +78,30 @@ fn next_table(t: Table, rows: &mut [[u8; 16]; 8], q: Request, a: Answer) -> Tabl
     }
 }
 
+// What is told of a table beside an answer to a call on it.
+pub fn report(t: Table, answer: Answer, wakeups: u32, next: u32) -> Report
+    ensures { λ r. ⌜ r ≡ record { answer = answer; chosen = t .chosen; clock = t .clock; wakeups = wakeups; next = next } ⌝ }
+{
+    Report {
+        answer: answer,
+        chosen: t.chosen,
+        clock: t.clock,
+        wakeups: wakeups,
+        next: next,
+    }
+}
+
+// What a call hands back: the table, and what is told of it.
+pub fn reply(t: Table, answer: Answer, wakeups: u32, next: u32) -> Reply
+    ensures { λ r. ⌜ r ≡ record { report = record { answer = answer; chosen = t .chosen; clock = t .clock; wakeups = wakeups; next = next }; table = t } ⌝ }
+{
+    let told = report(t, answer, wakeups, next);
+    Reply {
+        report: told,
+        table: t,
+    }
+}
+
 // A call in which no time passes, on a sound table: its answer, what is reported beside it, and the table and rows handed back.
 pub fn untimed(t: Table, rows: &mut [[u8; 16]; 8], q: Request) -> Reply
     requires { ⌜ sound-table t (now rows) ≡ true ⌝ }
@@ -88,15 +112,5 @@ pub fn untimed(t: Table, rows: &mut [[u8; 16]; 8], q: Request) -> Reply
     let answer = refusals::answer(t, before, q);
     let u = next_table(t, &mut *rows, q, answer);
     let next = next::next_wake_up(u);
-    let report = Report {
-        answer: answer,
-        chosen: u.chosen,
-        clock: u.clock,
-        wakeups: 0,
-        next: next,
-    };
-    Reply {
-        report: report,
-        table: u,
-    }
+    reply(u, answer, 0, next)
 }

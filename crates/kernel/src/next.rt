@@ -16,7 +16,7 @@ use model::tables::Timer;
 use table::objects;
 
 // The lesser of two counters, where 0 means that a counter doesn't run.
-fn nearer(a: u32, b: u32) -> u32
+pub fn nearer(a: u32, b: u32) -> u32
     ensures { λ r. ⌜ r ≡ nearer a b ⌝ }
 {
     if (a == 0) | ((0 < b) & (b < a)) { b } else { a }
@@ -49,7 +49,7 @@ fn nearest_limit(threads: [Thread; 16]) -> u32
 }
 
 // What is left of the running thread's quantum, where it counts (01, One tick, 2); else 0. Where nobody runs there is no quantum.
-fn quantum_left(t: Table) -> u16
+pub fn quantum_left(t: Table) -> u16
     requires { ⌜ ((rows : Rows) × Whole t rows) ⌝ }
     ensures { λ r. ⌜ ((rows : Rows) → Whole t rows → r ≡ cond (quantum-counts (view t rows)) (thread (t .chosen) (view t rows) .left) 0) ⌝ }
 {

@@ -6,4 +6,5 @@ pub mod Ready
 pub mod Rooms
 pub mod Retaking
 pub mod Stored
+pub mod LaidSound
 pub mod ByArray

@@ -2,7 +2,6 @@
 use mathlib.Core.Path.{_≡_, refl, _∙_, ap}
 use mathlib.Core.List.{List, [], _∷_}
 use Prim.Native.Nat.{ℕ, _<_, _≤_}
-use native.Mathlib.Decide.{decLt}
 use native.Mathlib.Omega.{arith}
 use lib.ListN.{length, getD, take}
 use lib.Seq.{getD-take}
@@ -15,6 +14,7 @@ use Rattle.model.specs.Parts.{list}
 use Rattle.model.specs.Layout as layout
 use Rattle.model.specs.Layout.{view, ids-of, list-at}
 use Rattle.placed.specs.Placed.{standing}
+use Rattle.placed.proofs.Standing.{standing-below}
 use Rattle.table.specs.Orderly.{Whole}
 use Rattle.table.proofs.Views.{list-view}
 
@@ -40,10 +40,7 @@ module _ {t : Table} {rows : layout.Rows} (w : Whole t rows) (j : ℕ) (below : 
   listed-below k h =
       let x = getD (stored .ids) k 0 in
       let there : 0 < count x (ids-of stored) = rw (← listed-at k h) (count-there (ids-of stored) k (omega (arith, listed-many))) in
-      elim (decLt x 16) [
-        | yes s ↦ s
-        | no s ↦ absurd (omega (arith, there, listed-standing x, w .placed .known x (omega arith)))
-      ]
+      standing-below (w .placed) x (omega (arith, there, listed-standing x))
 
   pub none-listed : stored .length ≡ 0 → list j (view t rows) ≡ []
   none-listed e = list-view t rows j ∙ ap (λ (n : ℕ). take n (stored .ids)) e

@@ -1,6 +1,6 @@
-// The record of an object or of a timer, and the mark of scheduling, written with all else as it was.
+// The record of an object or of a timer, the clock and the mark of scheduling, written with all else as it was.
 ghost use Prim.Native.Nat.{_<_};
-ghost use Rattle.model.specs.Parts.{with-off, alter-semaphore, alter-mutex, alter-flags, alter-timer};
+ghost use Rattle.model.specs.Parts.{with-clock, with-off, alter-semaphore, alter-mutex, alter-flags, alter-timer};
 ghost use Rattle.table.specs.Orderly.{OrderlyTable, Meets};
 use model::tables::Flags;
 use model::tables::Mutex;
@@ -45,6 +45,15 @@ pub fn with_timer(t: Table, o: usize, x: Timer) -> Table
 {
     let mut u = t;
     u.timers[o] = x;
+    u
+}
+
+pub fn with_clock(t: Table, clock: u32) -> Table
+    requires { ⌜ OrderlyTable t ⌝ }
+    ensures { λ r. ⌜ Meets t (with-clock clock) r ⌝ }
+{
+    let mut u = t;
+    u.clock = clock;
     u
 }
 

@@ -1,7 +1,7 @@
 // A thread's record read, and written with all else as it was.
 ghost use mathlib.Core.Path.{_≡_};
 ghost use Prim.Native.Nat.{_<_};
-ghost use Rattle.model.specs.Parts.{alter-thread, with-base, with-current, with-quantum, with-wait, with-result, with-delivered, refilled};
+ghost use Rattle.model.specs.Parts.{alter-thread, with-base, with-current, with-quantum, with-left, with-wait, with-result, with-delivered, refilled};
 ghost use Rattle.model.specs.Layout.{thread-at};
 ghost use Rattle.table.specs.Orderly.{OrderlyTable, Meets};
 use model::tables::Table;
@@ -69,6 +69,16 @@ pub fn with_quantum(t: Table, i: u8, n: u16) -> Table
     let mut x = thread(t, i);
     x.quantum = n;
     x.left = n;
+    with_thread(t, i, x)
+}
+
+pub fn with_left(t: Table, i: u8, left: u16) -> Table
+    requires { ⌜ OrderlyTable t ⌝ }
+    requires { ⌜ i < 16 ⌝ }
+    ensures { λ r. ⌜ Meets t (alter-thread i (with-left left)) r ⌝ }
+{
+    let mut x = thread(t, i);
+    x.left = left;
     with_thread(t, i, x)
 }
 

@@ -1,7 +1,7 @@
 -- The answer is the model's, and so is the table after it; what is reported is read off that table.
 use denote.Ref.{now}
 use Rattle.table.specs.Orderly.{Whole}
-use Rattle.kernel.proofs.Replying.{whole-after, replied}
+use Rattle.kernel.proofs.Replying.{whole-after, no-ticks, replied}
 use borrow.Author.Needs.{needs}
 use Rattle.kernel.proofs.untimed.Statement.{statement}
 use Rattle.kernel.proofs.untimed.Tie as tie
@@ -18,11 +18,13 @@ next-wake-up-requires c κs = (c .next-table .last .1 .0, whole c)
 
 returns : tie.Need-returns
 returns c =
-    let u = c .before in
+    let n = c .before in
+    let u = n .before in
     let x = u .before .before in
     let s = x .before .before in
-    replied (s .args .t) (now (s .args .rows)) (s .args .q) (s .pre .0) (x .answer .ensures) (u .next-table .ensures) (s .pre .1)
-    (c .next-wake-up .ensures (u .next-table .last .1 .0) (whole u))
+    replied (s .args .t) (now (s .args .rows)) (s .args .q) (s .pre .0) (x .answer .ensures) (u .next-table .ensures)
+    (no-ticks (s .args .t) (now (s .args .rows)) (s .args .q) (s .pre .0) (x .answer .ensures) (u .next-table .ensures) (s .pre .1))
+    (n .next-wake-up .ensures (u .next-table .last .1 .0) (whole u)) (c .reply .ensures)
 
 pub untimed-spec : {M : Type 1} → statement M
-untimed-spec = tie.close (tie.spec (λ c κs. search needs) (λ c κs. search needs) next-wake-up-requires returns)
+untimed-spec = tie.close (tie.spec (λ c κs. search needs) (λ c κs. search needs) next-wake-up-requires (λ c κs. search needs) returns)
