@@ -1,0 +1,6 @@
+pub mod Walking
+pub mod TimerWalk
+pub mod LimitWalk
+pub mod Found
+pub mod Arming
+pub mod Passing
