@@ -1,12 +1,13 @@
 -- Demand 3, of tables as they are stored: an advance is its single ticks, advances add up, wake-ups are counted exactly, the next one named
 -- is the first to come, and before it nothing moves.
 use mathlib.Core.Path.{_≡_, refl, sym, _∙_, ap, ap₂, subst, fun-ext}
-use mathlib.Core.Bool.{true}
+use mathlib.Core.Bool.{Bool, true, false}
 use mathlib.Core.List.{List, map}
 use mathlib.Core.Logic.{_⊎_}
 use Prim.Native.Nat.{ℕ, zero, suc, _+_, _<_}
 use lib.ListN.{length}
 use Rattle.sequences.specs.Lists.{count-below, padded}
+use Rattle.sequences.specs.Steps.{ticks, wakeups}
 use Rattle.model.specs.declared.answers.Answer.the-variants.{Done}
 use Rattle.model.specs.declared.answers.Report.{Report}
 use Rattle.model.specs.declared.requests.Request.{Request}
@@ -15,7 +16,7 @@ use Rattle.model.specs.Ranges.{fits-32}
 use Rattle.model.specs.Tick.{wakes, wrap}
 use Rattle.model.specs.Time.{after-ticks, Next, next}
 use Rattle.model.specs.Kernel.{Outcome, call}
-use Rattle.model.specs.Layout.{view, laid-list, lay-table, lay-rows}
+use Rattle.model.specs.Layout.{view, laid-list, lay-table, lay-rows, call-by, call-table}
 use Rattle.model.specs.Promises.{advancing, one-by-one, reported}
 use Rattle.model.specs.Stored.{Stored, seen, is-sound, told, kept, singly, singly-told, next-told-by, next-told}
 use Rattle.table.proofs.Stored.{view-laid}
@@ -100,7 +101,16 @@ next-named k q whole =
     subst (Next (seen (kept k q))) (sym (ap (λ (r : Report). r .next) (sound-told k q whole)))
     (model.next-first (seen (kept k q)) (sound-seen (kept k q) (sound-kept k q whole)))
 
--- and so is what is told where it is asked for by itself
+-- asked for by itself it is told as an advance by 0 tells it, of any table
+pub asked-as-told : (k : Stored) → next-told (k .table) (k .rows) ≡ told k (advancing 0)
+unfolding next-told next-told-by call-table call-by ticks wakeups
+asked-as-told k = by-sound (is-sound k) refl
+  where
+    by-sound : (b : Bool) → is-sound k ≡ b → next-told-by b (seen k) ≡ call-by b (k .table) (k .rows) (advancing 0) .reply .report
+    by-sound true e = sym (ap (λ (o : Outcome). o .report) (model.advance-done (seen k) (sound-seen k e) 0 refl))
+    by-sound false e = refl
+
+-- and so it is the next wake-up of that table
 pub next-asked : (k : Stored) → is-sound k ≡ true → Next (seen k) (next-told (k .table) (k .rows) .next)
 unfolding next-told next-told-by
 next-asked k whole = rw whole (model.next-first (seen k) (sound-seen k whole))

@@ -24,6 +24,7 @@ use Rattle.placed.specs.Placed.{Placed}
 use Rattle.placed.proofs.Standing.{alter-placed}
 use Rattle.placed.proofs.Entering.{wake-placed}
 use Rattle.table.specs.Orderly.{Whole, Does}
+use Rattle.table.proofs.Rooms.{whole-then}
 use Rattle.table.proofs.StoredLists.{listed-many, listed-at, listed-standing, listed-below}
 use Rattle.kernel.specs.Meeting.{wake-met}
 
@@ -101,7 +102,7 @@ module _ {t : Table} {rows : layout.Rows} (w : Whole t rows) (j : ℕ) (below : 
     waking-next h d =
         let i = getD (stored .ids) k 0 in
         record {
-          whole = record { order = d .order; placed = rw (d .view) (wake-met-placed word i (view u now) (listed-below w j below k h) (so-far .whole .placed)) };
+          whole = whole-then (λ s. wake-met-placed word i s (listed-below w j below k h)) d (so-far .whole);
           rest =
               rw (d .view)
               (sym (met-next word (ids-of stored) k i (view u now) (listed-at w j below k h) (λ x. omega (arith, listed-standing w j below x, w .placed .once x)) (omega (arith, listed-many w j below))) ∙ so-far .rest);

@@ -12,7 +12,7 @@ use Rattle.model.specs.Layout as layout
 use Rattle.model.specs.Layout.{view, list-at, thread-at}
 use Rattle.placed.specs.Placed.{Placed, standing}
 use Rattle.placed.proofs.Standing.{room-ready, room-list, leave-gone, leave-placed, alter-placed}
-use Rattle.table.specs.Orderly.{Given, Ranked, Does}
+use Rattle.table.specs.Orderly.{Whole, Given, Ranked, Does}
 use Rattle.table.proofs.Views.{list-view}
 use Rattle.table.proofs.StoredLists.{listed-below}
 
@@ -20,6 +20,11 @@ use Rattle.table.proofs.StoredLists.{listed-below}
 pub record Off (t : Table) (rows : layout.Rows) (i : ℕ) : Type 0 where
   pub given : Given t rows i
   pub off : standing i (view t rows) ≡ 0
+
+-- a word that keeps threads standing so leaves a whole table whole
+pub whole-then : {t r : Table} {rows after : layout.Rows} {f : State → State} → ((s : State) → Placed s → Placed (f s)) → Does t rows f r after → Whole t rows
+    → Whole r after
+whole-then {t} {r} {rows} keeps d w = record { order = d .order; placed = rw (d .view) (keeps (view t rows) (w .placed)) }
 
 module _ {t r : Table} {rows after : layout.Rows} {f : State → State} (d : Does t rows f r after) {i : ℕ} (below : i < 16) (placed : Placed (f (view t rows))) where
   pub given-after : Given r after i

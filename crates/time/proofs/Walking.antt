@@ -11,6 +11,7 @@ use Rattle.model.specs.Layout as layout
 use Rattle.model.specs.Layout.{view}
 use Rattle.placed.specs.Placed.{Placed}
 use Rattle.table.specs.Orderly.{Whole, Does}
+use Rattle.table.proofs.Rooms.{whole-then}
 
 -- a turn that leaves x as the record at place o
 pub record Turn {A : Type 0} (word : State → State) (places : State → List A) (absent : A) (o : ℕ) (t : Table) (rows : layout.Rows) (r : Table) (after : layout.Rows) (x : A) : Type 0 where
@@ -28,12 +29,12 @@ module _ {A : Type 0} (step : ℕ → State → State) (places : State → List 
 
   pub walking-next : (absent : A) {start : State} {o : ℕ} {t : Table} {rows : layout.Rows} {least : ℕ} → Walking step places counter first start o t rows least
       → {r : Table} {after : layout.Rows} {x : A} → Turn (step o) places absent o t rows r after x
-      → Placed (step o (view t rows)) → take o (places (step o (view t rows))) ≡ take o (places (view t rows)) → o < length (places (view r after))
+      → ((s : State) → Placed s → Placed (step o s)) → take o (places (step o (view t rows))) ≡ take o (places (view t rows)) → o < length (places (view r after))
       → {noted : ℕ} → noted ≡ nearer least (counter x) → Walking step places counter first start (o + 1) r after noted
-  walking-next absent {start} {o} {t} {rows} {least} w {r} {after} turn placed behind there e =
+  walking-next absent {start} {o} {t} {rows} {least} w {r} {after} turn keeps behind there e =
       let d = turn .does in
       record {
-        whole = record { order = d .order; placed = rw (d .view) placed };
+        whole = whole-then keeps d (w .whole);
         walk =
             rw (e, turn .own)
             (walk-next step places counter first start absent o (w .walk) (d .view) (ap (λ (s : State). take o (places s)) (d .view) ∙ behind) there);

@@ -8,6 +8,7 @@ use Rattle.model.specs.Layout.{view}
 use Rattle.placed.proofs.Standing.{choose-placed}
 use Rattle.table.specs.Orderly.{Whole}
 use Rattle.table.proofs.Views.{and-then, same-word}
+use Rattle.table.proofs.Rooms.{whole-then}
 use Rattle.theorems.specs.Leap.{leap}
 use Rattle.theorems.proofs.LeapPlaced.{quantum-leap-placed}
 use Rattle.theorems.proofs.LeapKeeps.{timers-placed, limits-placed, quantum-leap-timers}
@@ -25,9 +26,7 @@ module _ (c : tie.After-quantum-leap) where
   by = now (s .args .gap)
 
   whole-quantum : Whole (c .quantum-leap .result) (c .quantum-leap .last .1 .0)
-  whole-quantum =
-      let d = c .quantum-leap .ensures in
-      record { order = d .order; placed = rw (d .view) (quantum-leap-placed by (view (s .args .t) (now (s .args .rows))) (s .pre .0 .placed)) }
+  whole-quantum = whole-then (quantum-leap-placed by) (c .quantum-leap .ensures) (s .pre .0)
 
   armed-quantum : Armed (c .quantum-leap .result)
   unfolding view
@@ -39,30 +38,21 @@ module _ (c : tie.After-leap-timers) where
   quantum = c .before .before .before
 
   whole-timers : Whole (c .leap-timers .result) (c .leap-timers .last .1 .0)
-  whole-timers =
-      let d = c .leap-timers .ensures .0 in
-      let a = quantum .quantum-leap in
-      record { order = d .order; placed = rw (d .view) (timers-placed (by quantum) (view (a .result) (a .last .1 .0)) (whole-quantum quantum .placed)) }
+  whole-timers = whole-then (timers-placed (by quantum)) (c .leap-timers .ensures .0) (whole-quantum quantum)
 
 module _ (c : tie.After-leap-limits) where
   abbrev timers : tie.After-leap-timers
   timers = c .before .before .before
 
   whole-limits : Whole (c .leap-limits .result) (c .leap-limits .last .1 .0)
-  whole-limits =
-      let d = c .leap-limits .ensures .0 in
-      let b = timers .leap-timers in
-      record { order = d .order; placed = rw (d .view) (limits-placed (by (quantum timers)) (view (b .result) (b .last .1 .0)) (whole-timers timers .placed)) }
+  whole-limits = whole-then (limits-placed (by (quantum timers))) (c .leap-limits .ensures .0) (whole-timers timers)
 
 module _ (c : tie.After-choose) where
   abbrev walks : tie.After-leap-limits
   walks = c .before .before
 
   whole-choice : Whole (c .choose .result) (walks .leap-limits .last .1 .0)
-  whole-choice =
-      let d = c .choose .ensures in
-      let l = walks .leap-limits in
-      record { order = d .order; placed = rw (d .view) (choose-placed (view (l .result) (l .last .1 .0)) (whole-limits walks .placed)) }
+  whole-choice = whole-then choose-placed (c .choose .ensures) (whole-limits walks)
 
 leap-timers-requires : tie.Need-leap-timers-requires
 leap-timers-requires c κs = (whole-quantum (c .before .before), armed-quantum (c .before .before))

@@ -13,6 +13,7 @@ use Rattle.placed.proofs.Standing.{unmoved-placed}
 use Rattle.table.specs.Orderly.{Meets, Does}
 use Rattle.table.specs.Orderly.{Whole}
 use Rattle.table.proofs.Views.{does, list-view}
+use Rattle.table.proofs.Rooms.{whole-then}
 use Rattle.table.proofs.StoredLists.{listed-below}
 use Rattle.table.proofs.Rewriting.{rewritten-flags}
 use Rattle.kernel.proofs.MeetingLaws.{Waking, waking-next, waking-done}
@@ -32,7 +33,7 @@ module _ {t u : Table} {rows : layout.Rows} (w : Whole t rows) (o word : ℕ) (m
 
   -- a word moves nobody
   changed-whole : Whole u rows
-  changed-whole = record { order = changed .order; placed = rw (changed .view) (unmoved-placed refl refl refl (w .placed)) }
+  changed-whole = whole-then (λ s. unmoved-placed refl refl refl) changed w
 
   -- and changes no condition
   changed-met : wake-each word (met word (ids-of (list-at (t .waits) (flags-list o))) (view u rows)) (view u rows) ≡ change-word o word (view t rows)

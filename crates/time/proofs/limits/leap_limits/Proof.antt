@@ -38,7 +38,7 @@ loop-again c =
     in (
       omega arith,
       walking-next (limit-leap gap) threads limit (s .args .soonest .now) absent-thread (l .inv .1) turn
-          (limit-leap-placed gap (l .i) (view (l .u) (l .rows)) below (l .inv .1 .whole .placed)) (threads-behind gap (l .i) (view (l .u) (l .rows)))
+          (λ s. limit-leap-placed gap (l .i) s below) (threads-behind gap (l .i) (view (l .u) (l .rows)))
           (omega (arith, below, turn .does .order .table .threads)) (c .nearer .ensures),
     )
 

@@ -8,6 +8,7 @@ use Rattle.placed.proofs.Standing.{unmoved-placed}
 use Rattle.table.specs.Orderly.{Whole, Does}
 use Rattle.table.proofs.Views.{does, and-then, same-word}
 use Rattle.table.proofs.Rewriting.{rewritten-timer}
+use Rattle.table.proofs.Rooms.{whole-then}
 use Rattle.theorems.specs.Leap.{expire}
 use borrow.Author.Needs.{needs}
 use Rattle.time.proofs.timers.expire.Statement.{statement}
@@ -24,7 +25,7 @@ module _ (c : tie.After-with-timer) where
 
   -- an expiry moves nobody
   whole : Whole (c .with-timer .result) (now (s .args .rows))
-  whole = record { order = written .order; placed = rw (written .view) (unmoved-placed refl refl refl (s .pre .0 .placed)) }
+  whole = whole-then (λ x. unmoved-placed refl refl refl) written (s .pre .0)
 
 act-requires : tie.Need-act-requires
 act-requires c κs = (whole (c .before), s (c .before) .pre .1 .1 (s (c .before) .args .o))

@@ -44,7 +44,7 @@ loop-again c =
     in (
       omega arith,
       armed-next gap (l .o) (l .u) (l .rows) (l .inv .1) (turn .does),
-      walking-next (timer-leap gap) timers left 0 unused-timer (l .inv .2) turn (timer-leap-placed gap (l .o) (view (l .u) (l .rows)) (l .inv .2 .whole .placed))
+      walking-next (timer-leap gap) timers left 0 unused-timer (l .inv .2) turn (timer-leap-placed gap (l .o))
           (timers-behind gap (l .o) (view (l .u) (l .rows))) (omega (arith, below, turn .does .order .table .timers)) (c .nearer .ensures),
     )
 
