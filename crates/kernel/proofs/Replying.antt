@@ -1,28 +1,26 @@
--- From the answer and the table after it: threads stand on that as they must, and with what is reported it is the model's whole outcome, laid out.
-use mathlib.Core.Path.{_≡_, refl, sym, _∙_, ap}
+-- From the answer and the table after it, with what is reported, to the model's whole outcome, laid out.
+use mathlib.Core.Path.{_≡_, sym, _∙_, ap}
 use mathlib.Core.Bool.{Bool, true, false, cond, and-false}
 use Prim.Native.Nat.{ℕ}
 use borrow.Author.Tests.{ne-eqb}
 use lib.Dec.{eqb}
 use Rattle.sequences.specs.Steps.{wakeups}
-use Rattle.sequences.proofs.Tests.{left, right}
+use Rattle.sequences.proofs.Tests.{right}
 use Rattle.model.specs.declared.answers.Answer.{Answer}
 use Rattle.model.specs.declared.answers.Answer.the-variants.{Unsound}
 use Rattle.model.specs.declared.answers.Reply.{Reply}
 use Rattle.model.specs.declared.requests.Request.{Request}
 use Rattle.model.specs.declared.tables.Table.{Table}
 use Rattle.model.specs.State.{State}
-use Rattle.model.specs.Sound.{sound-but-choice, choice-fits, sound}
+use Rattle.model.specs.Sound.{sound}
 use Rattle.model.specs.Answers.{number, accepted, report}
 use Rattle.model.specs.Calls.{numbered}
 use Rattle.model.specs.Time.{next, wakeups-in}
 use Rattle.model.specs.Kernel.{judge, answer, next-state, span, outcome, call}
 use Rattle.model.specs.Layout as layout
 use Rattle.model.specs.Layout.{view, orderly, sound-table, laid}
-use Rattle.placed.proofs.Sounds.{sound-placed}
-use Rattle.table.specs.Orderly.{Whole, Does}
+use Rattle.table.specs.Orderly.{Does}
 use Rattle.table.proofs.Stored.{laid-table, laid-rows}
-use Rattle.theorems.proofs.Demand2.{sound-call}
 use Rattle.theorems.proofs.Replies.{judge-other}
 
 module _ (t : Table) (rows : layout.Rows) (q : Request) (whole : sound-table t rows ≡ true) {a : Answer} (given : a ≡ judge (numbered (q .call)) q (view t rows)) where
@@ -38,16 +36,6 @@ module _ (t : Table) (rows : layout.Rows) (q : Request) (whole : sound-table t r
   its-answer = ap (λ (b : Bool). cond b (judge (numbered (q .call)) q s) Unsound) is-sound ∙ sym given
 
   module _ {r : Table} {after : layout.Rows} (d : Does t rows (next-state a q) r after) where
-    after-call : call s q .after ≡ view r after
-    unfolding call
-    after-call = ap (λ (x : Answer). next-state x q s) its-answer ∙ sym (d .view)
-
-    pub whole-after : Whole r after
-    unfolding sound
-    whole-after =
-        let still : sound (view r after) ≡ true = ap sound (sym after-call) ∙ sound-call s q is-sound in
-        record { order = d .order; placed = sound-placed (view r after) (left (sound-but-choice (view r after)) (choice-fits (view r after)) still) }
-
     told : eqb (number a) 1 ≡ false
     told = rw given (judge-other (numbered (q .call)) q s)
 

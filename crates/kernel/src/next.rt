@@ -2,6 +2,8 @@
 ghost use mathlib.Core.Path.{_≡_};
 ghost use mathlib.Core.Bool.{cond};
 ghost use mathlib.Core.List.{map};
+ghost use lib.Dec.{leb};
+ghost use lib.ListN.{getD};
 ghost use Rattle.sequences.specs.Lists.{nearest, nearer};
 ghost use Rattle.model.specs.declared.tables.Thread.{Thread};
 ghost use Rattle.model.specs.declared.tables.Timer.{Timer};
@@ -9,7 +11,7 @@ ghost use Rattle.model.specs.Parts.{thread};
 ghost use Rattle.model.specs.Tick.{quantum-counts};
 ghost use Rattle.model.specs.Time.{next};
 ghost use Rattle.model.specs.Layout.{Rows, view};
-ghost use Rattle.table.specs.Orderly.{Whole};
+ghost use Rattle.table.specs.Orderly.{Orderly};
 use model::tables::Table;
 use model::tables::Thread;
 use model::tables::Timer;
@@ -48,16 +50,22 @@ fn nearest_limit(threads: [Thread; 16]) -> u32
     least
 }
 
+// Whether two threads or more stand on the ready list of priority p. Past the last priority there is no list.
+fn is_shared(lengths: [u8; 8], p: u8) -> bool
+    ensures { λ r. ⌜ r ≡ leb 2 (getD lengths p 0) ⌝ }
+{
+    let k = p as usize;
+    if k < 8 { 2 <= lengths[k] } else { false }
+}
+
 // What is left of the running thread's quantum, where it counts (01, One tick, 2); else 0. Where nobody runs there is no quantum.
 pub fn quantum_left(t: Table) -> u16
-    requires { ⌜ ((rows : Rows) × Whole t rows) ⌝ }
-    ensures { λ r. ⌜ ((rows : Rows) → Whole t rows → r ≡ cond (quantum-counts (view t rows)) (thread (t .chosen) (view t rows) .left) 0) ⌝ }
+    ensures { λ r. ⌜ ((rows : Rows) → Orderly t rows → r ≡ cond (quantum-counts (view t rows)) (thread (t .chosen) (view t rows) .left) 0) ⌝ }
 {
     let all = t.threads;
     let lengths = t.lengths;
     let x = objects::thread(all, t.chosen as u32);
-    let p = x.current as usize;
-    if (t.off == 0) & (0 < x.quantum) & (2 <= lengths[p]) {
+    if (t.off == 0) & (0 < x.quantum) & is_shared(lengths, x.current) {
         x.left
     } else {
         0
@@ -66,8 +74,7 @@ pub fn quantum_left(t: Table) -> u16
 
 // How long the ready lists are is all that is asked of them, and that stands in the table.
 pub fn next_wake_up(t: Table) -> u32
-    requires { ⌜ ((rows : Rows) × Whole t rows) ⌝ }
-    ensures { λ r. ⌜ ((rows : Rows) → Whole t rows → r ≡ next (view t rows)) ⌝ }
+    ensures { λ r. ⌜ ((rows : Rows) → Orderly t rows → r ≡ next (view t rows)) ⌝ }
 {
     let timers = t.timers;
     let all = t.threads;

@@ -1,22 +1,20 @@
 -- What follows from where threads stand: who is on a list is a thread, who is off all lists leaves room on each, and who leaves is off
--- them. Leaving keeps it, and so do choosing and a change of a record but for the current priority of who is ready.
-use mathlib.Core.Path.{_≡_, refl, _∙_}
-use mathlib.Core.Bool.{Bool, true, false, cond, not, _&&_}
+-- them. Leaving keeps it, and so does a change of a record but for the current priority of who is ready.
+use mathlib.Core.Path.{_≡_, _∙_}
 use mathlib.Core.List.{List, _∷_}
 use Prim.Native.Nat.{ℕ, _<_, _≤_}
 use native.Mathlib.Decide.{ℕ-discrete, decLt}
 use native.Mathlib.Omega.{arith}
 use borrow.Author.Tests.{eq-eqb, ne-eqb}
-use lib.Dec.{eqb}
 use lib.ListN.{length, length-map}
 use Rattle.sequences.specs.Lists.{count, count-all, without}
 use Rattle.sequences.proofs.Members.{counted-left}
 use Rattle.sequences.proofs.Counts.{count-all-at, count-all-gone, count-all-kept, few}
 use Rattle.sequences.proofs.Places.{length-alter, alter-keeps, alter-holds}
 use Rattle.model.specs.declared.tables.Thread.{Thread}
-use Rattle.model.specs.State.{State, scheduling-on, absent-thread}
-use Rattle.model.specs.Parts.{thread, ready-list, list, with-chosen, alter-thread, refilled}
-use Rattle.model.specs.Words.{leave, choice, choose}
+use Rattle.model.specs.State.{State, absent-thread}
+use Rattle.model.specs.Parts.{thread, ready-list, list, alter-thread}
+use Rattle.model.specs.Words.{leave}
 use Rattle.placed.specs.Placed.{Placed, standing}
 
 -- ---- on a list
@@ -89,14 +87,6 @@ alter-placed i g s same w =
   where
     still : (x : ℕ) → thread x (alter-thread i g s) .current ≡ thread x s .current
     still x = alter-keeps (λ (t : Thread). t .current) g same i (s .threads) x absent-thread
-
-pub choose-placed : (s : State) → Placed s → Placed (choose s)
-unfolding choose
-choose-placed s w = by-test (scheduling-on s && not (eqb (choice s) (s .chosen)))
-  where
-    by-test : (b : Bool) → Placed (cond b (with-chosen (choice s) (alter-thread (choice s) refilled s)) s)
-    by-test true = unmoved-placed refl refl refl (alter-placed (choice s) refilled s (λ t. refl) w)
-    by-test false = w
 
 -- ---- any change of the record of a thread that isn't ready
 

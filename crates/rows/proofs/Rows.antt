@@ -2,10 +2,10 @@
 use mathlib.Core.Path.{_≡_, sym, _∙_, ap}
 use mathlib.Core.List.{List, [], _∷_, _++_, append-assoc}
 use Prim.Native.Nat.{ℕ, zero, suc, _+_, _-_, _≤_, _<_}
-use native.Mathlib.Decide.{ℕ-discrete}
+use native.Mathlib.Decide.{ℕ-discrete, decLt}
 use native.Mathlib.Numerals.{add-one}
 use native.Mathlib.Omega.{arith}
-use lib.ListN.{length, take, drop, set, getD, length-set, length-append, length-replicate, length-drop, getD-replicate}
+use lib.ListN.{length, take, drop, set, getD, length-set, length-append, length-replicate, length-drop, getD-replicate, List·getD-eq-default}
 use lib.Seq.{paste, length-paste-head, take-suc-set, drop-set-lt, drop-drop, drop-cons, set-at, take-at, drop-at, take-take, take-add, take-suc, length-take-le}
 use lib.Seq.{getD-set-same, getD-set-other, getD-drop}
 use Rattle.sequences.specs.Lists.{insert-at, remove-at, snoc, take-each}
@@ -172,3 +172,13 @@ module _ {places many : ℕ} {rows : List (List ℕ)} {lengths : List ℕ} (w : 
                 ∙ ap (set (take-each lengths rows) p) (e .list ∙ ap g (sym list-at))
                 ∙ alter-set g [] (take-each lengths rows) p;
           }
+
+  -- a length as it is read at any place, also past the last row
+  pub length-read : (p : ℕ) → length (getD (take-each lengths rows) p []) ≡ getD lengths p 0
+  length-read p =
+      elim (decLt p many) [
+        | yes h ↦ length-at p h
+        | no h ↦
+            ap length (List·getD-eq-default (take-each lengths rows) [] {n = p} (omega (arith, lists-many)))
+            ∙ sym (List·getD-eq-default lengths 0 {n = p} (omega (arith, w .wide)))
+      ]

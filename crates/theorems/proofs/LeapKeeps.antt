@@ -1,5 +1,5 @@
--- What a leap leaves alone: its quantum's part the timers, its walk over the limits the timers too, and the choice every counter but the
--- quantum of whom it chooses. So what the walks find nearest is still so at the end.
+-- What a leap leaves alone: the walk over the timers leaves threads standing as they must, the quantum's part and the walk over the limits
+-- leave the timers, and the choice every counter but the quantum of whom it chooses. So what the walks find nearest is so to the end.
 use mathlib.Core.Path.{_≡_, refl, sym, _∙_, ap, ap₂}
 use mathlib.Core.Bool.{Bool, true, false, cond, not, _&&_}
 use mathlib.Core.List.{List, map}
@@ -20,15 +20,12 @@ use Rattle.placed.specs.Placed.{Placed}
 use Rattle.theorems.specs.Skip.{limit-less}
 use Rattle.theorems.specs.Leap.{spend, quantum-leap, timer-leap, run-out, limit-leap}
 use Rattle.theorems.proofs.Skips.{running, times, limits}
-use Rattle.theorems.proofs.LeapPlaced.{timer-leap-placed, limit-leap-placed}
+use Rattle.theorems.proofs.LeapPlaced.{timer-leap-placed}
 
 -- ---- where threads stand
 
 pub timers-placed : (gap : ℕ) (s : State) → Placed s → Placed (in-order timer-count (timer-leap gap) s)
 timers-placed gap = in-order-holds Placed (timer-leap gap) timer-count (λ o h. timer-leap-placed gap o)
-
-pub limits-placed : (gap : ℕ) (s : State) → Placed s → Placed (in-order thread-count (limit-leap gap) s)
-limits-placed gap = in-order-holds Placed (limit-leap gap) thread-count (λ i h s. limit-leap-placed gap i s h)
 
 -- ---- the timers
 

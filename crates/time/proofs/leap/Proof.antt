@@ -5,13 +5,12 @@ use denote.Ref.{now}
 use Rattle.model.specs.State.{State}
 use Rattle.model.specs.Words.{settle}
 use Rattle.model.specs.Layout.{view}
-use Rattle.placed.proofs.Standing.{choose-placed}
 use Rattle.table.specs.Orderly.{Whole}
 use Rattle.table.proofs.Views.{and-then, same-word}
 use Rattle.table.proofs.Rooms.{whole-then}
 use Rattle.theorems.specs.Leap.{leap}
 use Rattle.theorems.proofs.LeapPlaced.{quantum-leap-placed}
-use Rattle.theorems.proofs.LeapKeeps.{timers-placed, limits-placed, quantum-leap-timers}
+use Rattle.theorems.proofs.LeapKeeps.{timers-placed, quantum-leap-timers}
 use Rattle.time.specs.Armed.{Armed}
 use Rattle.time.proofs.Found.{next-found}
 use borrow.Author.Needs.{needs}
@@ -44,24 +43,15 @@ module _ (c : tie.After-leap-limits) where
   abbrev timers : tie.After-leap-timers
   timers = c .before .before .before
 
-  whole-limits : Whole (c .leap-limits .result) (c .leap-limits .last .1 .0)
-  whole-limits = whole-then (limits-placed (by (quantum timers))) (c .leap-limits .ensures .0) (whole-timers timers)
-
 module _ (c : tie.After-choose) where
   abbrev walks : tie.After-leap-limits
   walks = c .before .before
-
-  whole-choice : Whole (c .choose .result) (walks .leap-limits .last .1 .0)
-  whole-choice = whole-then choose-placed (c .choose .ensures) (whole-limits walks)
 
 leap-timers-requires : tie.Need-leap-timers-requires
 leap-timers-requires c κs = (whole-quantum (c .before .before), armed-quantum (c .before .before))
 
 leap-limits-requires : tie.Need-leap-limits-requires
 leap-limits-requires c κs = whole-timers (c .before .before)
-
-quantum-left-requires : tie.Need-quantum-left-requires
-quantum-left-requires c κs = (walks c .leap-limits .last .1 .0, whole-choice c)
 
 returns : tie.Need-returns
 unfolding leap settle view
@@ -74,7 +64,7 @@ returns c =
     let gap = by (quantum (timers (walks d))) in (
       same-word (leap gap) (and-then (and-then (and-then (a .ensures) (b .ensures .0)) (l .ensures .0)) (d .choose .ensures)) refl,
       c .nearer .ensures
-          ∙ next-found gap (l .ensures .0) (d .choose .ensures) (b .ensures .1) (l .ensures .1) (q .quantum-left .ensures (l .last .1 .0) (whole-choice d)),
+          ∙ next-found gap (l .ensures .0) (d .choose .ensures) (b .ensures .1) (l .ensures .1) (q .quantum-left .ensures (l .last .1 .0) (d .choose .ensures .order)),
     )
 
 pub leap-spec : {M : Type 1} → statement M
@@ -85,7 +75,7 @@ leap-spec =
     leap-timers-requires
     leap-limits-requires
     (λ c κs. search needs)
-    quantum-left-requires
+    (λ c κs. search needs)
     (λ c. search needs)
     (λ c κs. search needs)
     returns)

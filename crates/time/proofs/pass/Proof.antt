@@ -25,14 +25,11 @@ module _ (c : tie.Then1 Inv-loop μ-loop) where
   reached : c .before .before .loop .gap ≤ c .before .before .loop .left
   reached = c .before .within .ensures .reached (c .if1 .taken)
 
-next-wake-up-requires : tie.Need-next-wake-up-requires Inv-loop μ-loop
-next-wake-up-requires c κs = (now (c .args .rows), sound-whole (c .pre))
-
 loop-holds : tie.Need-loop-holds Inv-loop μ-loop
 loop-holds c =
     let s = c .before in
     let rows = now (s .args .rows) in
-    passing-start (s .args .t) rows (s .pre) (s .args .n) (c .next-wake-up .ensures rows (sound-whole (s .pre)))
+    passing-start (s .args .t) rows (s .pre) (s .args .n) (c .next-wake-up .ensures rows (sound-whole (s .pre) .order))
 
 sub-left : tie.Need-sub-left Inv-loop μ-loop
 sub-left c = omega (arith, reached c)
@@ -89,7 +86,7 @@ pass-spec =
     (tie.spec
     Inv-loop
     μ-loop
-    next-wake-up-requires
+    (λ c κs. search needs)
     loop-holds
     (λ c κs. search needs)
     sub-left

@@ -7,9 +7,9 @@ use Rattle.model.specs.State.{State}
 use Rattle.model.specs.Time.{after-ticks, wakeups-in}
 use Rattle.model.specs.Kernel.{next-state, span}
 use Rattle.model.specs.Layout.{view}
-use Rattle.table.specs.Orderly.{Whole, Does}
+use Rattle.table.specs.Orderly.{Does}
 use Rattle.table.proofs.Views.{same-word}
-use Rattle.kernel.proofs.Replying.{whole-after, replied}
+use Rattle.kernel.proofs.Replying.{replied}
 use Rattle.theorems.proofs.Spanned.{spanned}
 use borrow.Author.Needs.{needs}
 use Rattle.time.proofs.timed.Statement.{statement}
@@ -36,21 +36,15 @@ module _ (c : tie.After-pass) where
   woken : c .pass .result .wakeups ≡ wakeups-in (span a (start .args .q)) s
   woken = c .pass .ensures .1 ∙ ap (λ (n : ℕ). wakeups-in n s) (c .before .before .span .ensures)
 
-  whole : Whole (c .pass .result .table) (c .pass .last .1 .0)
-  whole = whole-after (start .args .t) (now (start .args .rows)) (start .args .q) (start .pre .0) (answered .answer .ensures) next-table
-
-next-wake-up-requires : tie.Need-next-wake-up-requires
-next-wake-up-requires c κs = (c .before .pass .last .1 .0, whole (c .before))
-
 returns : tie.Need-returns
 returns c =
     let p = c .before .before .before in
     let s = start p in
     replied (s .args .t) (now (s .args .rows)) (s .args .q) (s .pre .0) (answered p .answer .ensures) (next-table p)
     (woken p)
-    (c .before .next-wake-up .ensures (p .pass .last .1 .0) (whole p)) (c .reply .ensures)
+    (c .before .next-wake-up .ensures (p .pass .last .1 .0) (next-table p .order)) (c .reply .ensures)
 
 pub timed-spec : {M : Type 1} → statement M
 timed-spec =
     tie.close
-    (tie.spec (λ c κs. search needs) (λ c κs. search needs) (λ c κs. search needs) next-wake-up-requires (λ c κs. search needs) returns)
+    (tie.spec (λ c κs. search needs) (λ c κs. search needs) (λ c κs. search needs) (λ c κs. search needs) (λ c κs. search needs) returns)

@@ -21,7 +21,7 @@ seen s = view (s .args .t) (now (s .args .rows))
 
 left : (c : tie.After-quantum-left) → c .quantum-left .result ≡ running (seen (c .before))
 unfolding view
-left c = c .quantum-left .ensures (now (c .before .args .rows)) (c .before .pre .0)
+left c = c .quantum-left .ensures (now (c .before .args .rows)) (c .before .pre .0 .order)
 
 below : (c : tie.Then1) → c .before .before .args .t .chosen < 16
 unfolding view
