@@ -15,9 +15,9 @@ use Rattle.model.specs.Kernel.{perform, call}
 use Rattle.model.specs.Layout.{fresh-table, fresh-rows}
 use Rattle.model.specs.Promises.{heads-highest, applies}
 use Rattle.model.specs.Stored.{Stored, seen, is-sound, told, kept}
+use Rattle.table.proofs.LaidSound.{laid-sound}
 use Rattle.theorems.proofs.Demand2 as model
 use Rattle.theorems.proofs.Histories.{fresh-sound}
-use Rattle.table.proofs.LaidSound.{laid-sound}
 use Rattle.entries.proofs.Calling.{told-sound, sound-seen, seen-kept, kept-laid}
 
 pub fresh-stored : is-sound (record { table = fresh-table; rows = fresh-rows }) ≡ true

@@ -1,5 +1,5 @@
-// The passing of time (01, One tick, and call 22). An advance goes from wake-up to wake-up: its cost grows with the wake-ups in the span and
-// not with the span, and the clock is moved once, at the end.
+// The passing of time (01, One tick, and call 22). An advance has a turn for each wake-up among its ticks and none for the quiet ones, however
+// many they are; the clock is moved once, at the end.
 ghost use mathlib.Core.Path.{_≡_};
 ghost use mathlib.Core.Bool.{true};
 ghost use Prim.Native.Nat.{_<_};

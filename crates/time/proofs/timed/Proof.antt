@@ -9,8 +9,8 @@ use Rattle.model.specs.Kernel.{next-state, span}
 use Rattle.model.specs.Layout.{view}
 use Rattle.table.specs.Orderly.{Does}
 use Rattle.table.proofs.Views.{same-word}
-use Rattle.kernel.proofs.Replying.{replied}
 use Rattle.theorems.proofs.Spanned.{spanned}
+use Rattle.kernel.proofs.Replying.{replied}
 use borrow.Author.Needs.{needs}
 use Rattle.time.proofs.timed.Statement.{statement}
 use Rattle.time.proofs.timed.Tie as tie

@@ -3,10 +3,10 @@ use mathlib.Core.Path.{_≡_, ap}
 use Prim.Native.Nat.{ℕ, _-_}
 use native.Mathlib.Omega.{arith}
 use lib.ListN.{length, getD}
+use Rattle.sequences.proofs.InOrder.{changed, changed-none, changed-next, changed-all}
 use Rattle.model.specs.State.{unused-timer}
 use Rattle.model.specs.Parts.{with-time}
 use Rattle.theorems.specs.Skip.{time-less}
-use Rattle.sequences.proofs.InOrder.{changed, changed-none, changed-next, changed-all}
 use borrow.Author.Needs.{needs}
 use Rattle.time.proofs.skips.timers_less.Statement.{statement}
 use Rattle.time.proofs.skips.timers_less.Tie as tie
