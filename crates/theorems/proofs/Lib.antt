@@ -32,6 +32,7 @@ pub mod Quiet
 pub mod Counting
 pub mod Jumps
 pub mod Leaping
+pub mod LeapOne
 pub mod LeapPlaced
 pub mod LeapKeeps
 pub mod Spending
