@@ -1,5 +1,5 @@
 -- Ticks that differ from the model's in their steps, and what becomes of P7's waiter under each: its result tells them from the model's.
-use mathlib.Core.Bool.{Bool, not, _&&_}
+use mathlib.Core.Bool.{Bool, _&&_}
 use mathlib.Core.List.{List, [], _∷_}
 use Prim.Native.Nat.{ℕ}
 use lib.Dec.{eqb}
@@ -31,4 +31,4 @@ timers-left-out s = choose (settle (limit-step (quantum-step (clock-step s))))
 
 -- the model's tick gives 1, and each of these 2
 unfoldable pub p7-tells-apart : Bool
-p7-tells-apart = eqb (p7-result tick) 1 && every (λ (f : State → State). not (eqb (p7-result f) 1)) (limits-first ∷ timers-left-out ∷ [])
+p7-tells-apart = eqb (p7-result tick) 1 && every (λ (f : State → State). eqb (p7-result f) 2) (limits-first ∷ timers-left-out ∷ [])

@@ -28,11 +28,11 @@ pub mod Retimed
 pub mod Clock
 pub mod Turns
 pub mod Skips
+pub mod LeapOne
 pub mod Quiet
 pub mod Counting
 pub mod Jumps
 pub mod Leaping
-pub mod LeapOne
 pub mod LeapPlaced
 pub mod LeapKeeps
 pub mod Spending

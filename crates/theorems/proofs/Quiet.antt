@@ -1,6 +1,6 @@
 -- A tick that is no wake-up is a skip of one: no counter is at 1, so each of its steps is the plain countdown, and the choice is as it was.
 use mathlib.Core.Path.{_≡_, refl, sym, _∙_, ap}
-use mathlib.Core.Bool.{Bool, true, false, cond, _||_}
+use mathlib.Core.Bool.{Bool, true, false, _||_}
 use mathlib.Core.List.{List, map}
 use Prim.Native.Nat.{_+_}
 use native.Mathlib.Omega.{arith}
@@ -17,20 +17,17 @@ use Rattle.model.specs.Words.{settle, choice, choose}
 use Rattle.model.specs.Sound.{sound}
 use Rattle.model.specs.Tick.{wrap, clock-step, quantum-counts, quantum-ends, quantum-step, timer-tick, timer-step, timer-ends, limit-tick, limit-step, limit-ends, before-limits, tick, wakes}
 use Rattle.theorems.specs.Skip.{limit-less, time-less, skip, still, still-tick, spent}
+use Rattle.theorems.specs.Leap.{spend, quantum-leap}
 use Rattle.theorems.proofs.Choosing.{sound-steady, chosen-choice}
+use Rattle.theorems.proofs.LeapOne.{quantum-leap-one}
 use Rattle.theorems.proofs.Skips.{length-spent}
 
 -- ---- the steps
 
 quantum-step-quiet : (s : State) → quantum-ends s ≡ false
     → quantum-step s ≡ with-threads (spent (quantum-counts s) 1 (s .chosen) (s .threads)) s
-unfolding quantum-step
-quantum-step-quiet s none = rw none (by-test (quantum-counts s))
-  where
-    by-test : (b : Bool)
-        → cond b (with-threads (spent true 1 (s .chosen) (s .threads)) s) s ≡ with-threads (spent b 1 (s .chosen) (s .threads)) s
-    by-test true = refl
-    by-test false = refl
+unfolding quantum-leap quantum-ends spend
+quantum-step-quiet s none = sym (quantum-leap-one s) ∙ rw none
 
 timer-step-quiet : (s : State) → length (s .timers) ≡ timer-count → timer-ends s ≡ false
     → timer-step s ≡ with-timers (map (time-less 1) (s .timers)) s

@@ -4,18 +4,17 @@ use mathlib.Core.Path.{_≡_, refl, sym, _∙_, ap}
 use mathlib.Core.Bool.{true}
 use Prim.Native.Nat.{ℕ, _+_, _-_, _<_, _≤_}
 use Rattle.sequences.specs.Jumps.{Free, Going}
-use Rattle.sequences.proofs.Tests as tests
+use Rattle.sequences.proofs.Tests.{right}
 use Rattle.sequences.proofs.Jumping.{going-start, going-turn, going-room, going-last}
 use Rattle.model.specs.declared.tables.Table.{Table}
 use Rattle.model.specs.State.{State}
 use Rattle.model.specs.Parts.{with-clock}
-use Rattle.model.specs.Sound.{sound-but-choice, choice-fits, sound}
+use Rattle.model.specs.Sound.{sound}
 use Rattle.model.specs.Tick.{wrap, quantum-counts, wakes}
 use Rattle.model.specs.Time.{after-ticks, wakeups-in, next}
 use Rattle.model.specs.Layout as layout
 use Rattle.model.specs.Layout.{view, orderly, sound-table}
 use Rattle.placed.proofs.Standing.{unmoved-placed}
-use Rattle.placed.proofs.Sounds.{sound-placed}
 use Rattle.table.specs.Orderly.{Orderly, Whole, Meets, Does}
 use Rattle.table.proofs.Stored.{sound-whole}
 use Rattle.table.proofs.Views.{does, and-then}
@@ -40,7 +39,7 @@ unfolding sound-table
 passing-start t rows whole n near =
     record {
       order = sound-whole whole .order;
-      going = going-start kernel (still (view t rows)) n (stilled (view t rows) (tests.right (orderly t rows) (sound (view t rows)) whole));
+      going = going-start kernel (still (view t rows)) n (stilled (view t rows) (right (orderly t rows) (sound (view t rows)) whole));
       near = near;
     }
 
@@ -51,11 +50,11 @@ module _ {s : State} {n : ℕ} {u : Table} {rows : layout.Rows} {left woken gap 
   rest-sound : sound at-rest ≡ true
   rest-sound = p .going .fine .0
 
+  rest-steady : Steady at-rest
+  rest-steady = sound-steady at-rest rest-sound
+
   pub passing-whole : Whole u rows
-  unfolding sound
-  passing-whole =
-      let placed = sound-placed at-rest (tests.left (sound-but-choice at-rest) (choice-fits at-rest) rest-sound) in
-      record { order = p .order; placed = unmoved-placed refl refl refl placed }
+  passing-whole = record { order = p .order; placed = unmoved-placed refl refl refl (rest-steady .lawful .placed) }
 
   pub passing-armed : Armed u
   unfolding view
@@ -77,11 +76,8 @@ module _ {s : State} {n : ℕ} {u : Table} {rows : layout.Rows} {left woken gap 
         near = near;
       }
     where
-      w : Steady at-rest
-      w = sound-steady at-rest rest-sound
-
       same : still (view r after) ≡ still-tick (skip (gap - 1) at-rest)
-      same = ap still (d .view) ∙ leap-still (view u rows) gap some (w .lawful .objects .many-timers) (w .lawful .placed .threads)
+      same = ap still (d .view) ∙ leap-still (view u rows) gap some (rest-steady .lawful .objects .many-timers) (rest-steady .lawful .placed .threads)
 
   -- and to the end, where no wake-up is left
   module _ (whole : sound s ≡ true) (free : Free left gap) {v w : Table} (quiet : Does u rows (skip left) v rows) {clock : ℕ} (moved : Meets v (with-clock clock) w) (sum : clock ≡ wrap (s .clock + n)) where
