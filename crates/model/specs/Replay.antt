@@ -2,9 +2,10 @@
 -- text's matter.
 use mathlib.Core.Bool.{Bool, true, false, _&&_}
 use mathlib.Core.List.{List, [], _∷_}
-use Prim.Native.Nat.{ℕ, zero, suc, _+_, _*_}
+use Prim.Native.Nat.{ℕ, zero, suc, _+_}
 use lib.Dec.{eqb, leb}
 use lib.ListN.{length, drop, getD}
+use Rattle.sequences.specs.Bytes.{four-at}
 use Rattle.model.specs.declared.answers.Report.{Report}
 use Rattle.model.specs.declared.requests.Request.{Request}
 use Rattle.model.specs.State.{State, fresh}
@@ -14,20 +15,16 @@ use Rattle.model.specs.Kernel.{Outcome, call}
 abbrev pub record-length : ℕ
 record-length = 20
 
--- the four bytes at a place, low byte first
-abbrev pub number-at : ℕ → List ℕ → ℕ
-number-at k bytes = getD bytes k 0 + 256 * (getD bytes (k + 1) 0 + 256 * (getD bytes (k + 2) 0 + 256 * getD bytes (k + 3) 0))
-
--- behind the mark a byte each for call and id, then the four numbers
+-- behind the mark a byte each for call and id, then the four numbers, low byte first
 abbrev pub request-of : List ℕ → Request
 request-of bytes =
     record {
       call = getD bytes 2 0;
       id = getD bytes 3 0;
-      a = number-at 4 bytes;
-      b = number-at 8 bytes;
-      c = number-at 12 bytes;
-      d = number-at 16 bytes;
+      a = four-at 4 bytes;
+      b = four-at 8 bytes;
+      c = four-at 12 bytes;
+      d = four-at 16 bytes;
     }
 
 -- a whole record stands first, and its mark is right

@@ -1,0 +1,43 @@
+// Numbers in bytes, low byte first, and bytes copied from one slice to another: what image and records are read and written by.
+ghost use mathlib.Core.Path.{_≡_};
+ghost use Prim.Native.Nat.{_+_, _<_};
+ghost use lib.ListN.{length};
+ghost use Rattle.sequences.specs.Bytes.{two-at, four-at};
+
+fn wide16(b: u8) -> u16
+    ensures { λ r. ⌜ (r ≡ b) × (r < 256) ⌝ }
+{
+    b as u16
+}
+
+pub fn wide32(b: u8) -> u32
+    ensures { λ r. ⌜ (r ≡ b) × (r < 256) ⌝ }
+{
+    b as u32
+}
+
+pub fn u16_at(s: &[u8], k: usize) -> u16
+    requires { ⌜ k + 1 < length (now s) ⌝ }
+    ensures { λ r. ⌜ r ≡ two-at k (now (s .entry)) ⌝ }
+{
+    wide16(s[k]) + 256 * wide16(s[k + 1])
+}
+
+pub fn u32_at(s: &[u8], k: usize) -> u32
+    requires { ⌜ k + 3 < length (now s) ⌝ }
+    ensures { λ r. ⌜ r ≡ four-at k (now (s .entry)) ⌝ }
+{
+    wide32(s[k]) + 256 * wide32(s[k + 1]) + 65536 * wide32(s[k + 2]) + 16777216 * wide32(s[k + 3])
+}
+
+// All of `src` into `dst`, which is as long.
+pub fn copy(dst: &mut [u8], src: &[u8])
+    requires { ⌜ length (now dst) ≡ length (now src) ⌝ }
+    ensures { λ _. ⌜ now (dst .exit) ≡ now (src .entry) ⌝ }
+{
+    let mut i = 0;
+    while i < src.len() {
+        dst[i] = src[i];
+        i += 1;
+    }
+}
