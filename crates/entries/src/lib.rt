@@ -1,5 +1,5 @@
-// For users: a fresh table, the soundness test, a whole call, an advance, the next wake-up. Each takes any table, any rows and any numbers;
-// where the table isn't sound the answer is 1, and every field stays as it was.
+// For users: a fresh table, the soundness test, a whole call, an advance, the next wake-up, and the number of an answer. Each takes any table,
+// any rows and any numbers; where the table isn't sound the answer is 1, and every field stays as it was.
 ghost use mathlib.Core.Path.{_≡_};
 ghost use Rattle.model.specs.declared.answers.Answer.the-variants.{Unsound};
 ghost use Rattle.model.specs.State.{nobody};
@@ -13,6 +13,8 @@ use model::calls::ADVANCE;
 use model::requests::Request;
 use model::tables::NOBODY;
 use model::tables::Table;
+pub use refusals::numbers::is_accepted;
+pub use refusals::numbers::number;
 pub use soundness::is_sound;
 pub use table::fresh::fresh;
 pub use table::fresh::fresh_rows;
