@@ -2,7 +2,7 @@
 ghost use mathlib.Core.Path.{_≡_};
 ghost use mathlib.Core.List.{_++_};
 ghost use Prim.Native.Nat.{_+_, _*_, _<_, _≤_};
-ghost use lib.ListN.{length, take};
+ghost use lib.ListN.{length, take, drop};
 ghost use Rattle.io.specs.Counts.{Counts};
 ghost use Rattle.model.specs.Replay.{line-of};
 ghost use Rattle.text.specs.Text.{line-text, text-of};
@@ -23,6 +23,7 @@ fn put_report(out: &mut [u8], at: usize, told: Report) -> usize
     requires { ⌜ at + 84 ≤ length (now out) ⌝ }
     ensures room { λ r. ⌜ (at ≤ r) × (r ≤ at + 84) ⌝ }
     ensures text { λ r. ⌜ take r (now (out .exit)) ≡ take at (now (out .entry)) ++ line-text (line-of told) ⌝ }
+    ensures rest { λ r. ⌜ drop r (now (out .exit)) ≡ drop r (now (out .entry)) ⌝ }
 {
     let answer = told.answer;
     let number = entries::number(answer);
@@ -49,6 +50,7 @@ pub fn replay_block(
     ensures counts { λ r. ⌜ Counts (r .length) (now (out .exit)) ⌝ }
     ensures after { λ r. ⌜ record { table = r .table; rows = now (rows .exit) } ≡ block offset (now (bytes .entry)) (record { table = t; rows = now (rows .entry) }) .after ⌝ }
     ensures good { λ r. ⌜ r .good ≡ block offset (now (bytes .entry)) (record { table = t; rows = now (rows .entry) }) .good ⌝ }
+    ensures rest { λ r. ⌜ drop (r .length) (now (out .exit)) ≡ drop (r .length) (now (out .entry)) ⌝ }
 {
     let mut table = t;
     let mut at = 0;

@@ -71,42 +71,25 @@ pub list-back : (s : List ℕ) → length s ≡ 17 → Bytes s → list-bytes (l
 list-back [] l o = absurd (omega arith)
 list-back (x ∷ s) l o = ap (λ (r : List ℕ). x ∷ r) (take-all 16 s (omega arith))
 
--- ---- widths
-
-pub thread-wide : (t : Thread) → length (thread-bytes t) ≡ 17
-thread-wide t = refl
-
-pub semaphore-wide : (x : Semaphore) → length (semaphore-bytes x) ≡ 5
-semaphore-wide x = refl
-
-pub mutex-wide : (x : Mutex) → length (mutex-bytes x) ≡ 3
-mutex-wide x = refl
-
-pub flags-wide : (x : Flags) → length (flags-bytes x) ≡ 3
-flags-wide x = refl
-
-pub timer-wide : (t : Timer) → length (timer-bytes t) ≡ 17
-timer-wide t = refl
-
 pub list-wide : (l : IdList) → ListFits l → length (list-bytes l) ≡ 17
 list-wide l o = ap suc (o .ids .many)
 
 -- ---- all of it, for each kind
 
 pub threads-coded : Codec 17 ThreadFits thread-bytes thread-of
-threads-coded = record { wide = λ t o. thread-wide t; bytes = λ t o. omega arith; same = thread-same; back = thread-back }
+threads-coded = record { wide = λ t o. refl; bytes = λ t o. omega arith; same = thread-same; back = thread-back }
 
 pub semaphores-coded : Codec 5 SemaphoreFits semaphore-bytes semaphore-of
-semaphores-coded = record { wide = λ x o. semaphore-wide x; bytes = λ x o. omega arith; same = semaphore-same; back = semaphore-back }
+semaphores-coded = record { wide = λ x o. refl; bytes = λ x o. omega arith; same = semaphore-same; back = semaphore-back }
 
 pub mutexes-coded : Codec 3 MutexFits mutex-bytes mutex-of
-mutexes-coded = record { wide = λ x o. mutex-wide x; bytes = λ x o. omega arith; same = mutex-same; back = mutex-back }
+mutexes-coded = record { wide = λ x o. refl; bytes = λ x o. omega arith; same = mutex-same; back = mutex-back }
 
 pub flags-coded : Codec 3 FlagsFits flags-bytes flags-of
-flags-coded = record { wide = λ x o. flags-wide x; bytes = λ x o. omega arith; same = flags-same; back = flags-back }
+flags-coded = record { wide = λ x o. refl; bytes = λ x o. omega arith; same = flags-same; back = flags-back }
 
 pub timers-coded : Codec 17 TimerFits timer-bytes timer-of
-timers-coded = record { wide = λ t o. timer-wide t; bytes = λ t o. omega arith; same = timer-same; back = timer-back }
+timers-coded = record { wide = λ t o. refl; bytes = λ t o. omega arith; same = timer-same; back = timer-back }
 
 pub lists-coded : Codec 17 ListFits list-bytes list-of
 lists-coded = record { wide = list-wide; bytes = λ l o. (o .length, o .ids .each); same = list-same; back = list-back }

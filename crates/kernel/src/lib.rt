@@ -23,12 +23,12 @@ use refusals::numbers;
 use table::choosing;
 
 pub mod flags;
-pub mod mutexes;
+mod mutexes;
 pub mod next;
-pub mod scheduling;
+mod scheduling;
 pub mod semaphores;
-pub mod threads;
-pub mod timers;
+mod threads;
+mod timers;
 
 fn effect(t: Table, rows: &mut [[u8; 16]; 8], q: Request) -> Table
     requires { ⌜ Accepted q t (now rows) ⌝ }

@@ -60,6 +60,7 @@ fn is_shared(lengths: [u8; 8], p: u8) -> bool
 
 // What is left of the running thread's quantum, where it counts (01, One tick, 2); else 0. Where nobody runs there is no quantum.
 pub fn quantum_left(t: Table) -> u16
+    requires { ⌜ ((rows : Rows) × Orderly t rows) ⌝ }
     ensures { λ r. ⌜ ((rows : Rows) → Orderly t rows → r ≡ cond (quantum-counts (view t rows)) (thread (t .chosen) (view t rows) .left) 0) ⌝ }
 {
     let all = t.threads;
@@ -74,6 +75,7 @@ pub fn quantum_left(t: Table) -> u16
 
 // How long the ready lists are is all that is asked of them, and that stands in the table.
 pub fn next_wake_up(t: Table) -> u32
+    requires { ⌜ ((rows : Rows) × Orderly t rows) ⌝ }
     ensures { λ r. ⌜ ((rows : Rows) → Orderly t rows → r ≡ next (view t rows)) ⌝ }
 {
     let timers = t.timers;

@@ -20,7 +20,7 @@ use Rattle.entries.proofs.Demand1.{sound-told}
 use Rattle.entries.proofs.Demand2.{fresh-stored, sound-kept}
 use Rattle.image.specs.Image.{image-length}
 use Rattle.image.proofs.RoundTrip.{written-read}
-use Rattle.image.proofs.SoundImage.{sound-read-written, sound-image-length}
+use Rattle.image.proofs.SoundImage.{sound-read-written, sound-image-length, sound-bytes}
 use Rattle.port.specs.Port.{right-length, stored-in, as-image, sound-image, fresh-after, report-of, image-after, next-in}
 use Rattle.port.proofs.Images.{wrong-length, refused-in}
 
@@ -45,10 +45,14 @@ read-back k whole =
     let same = sound-read-written (k .table) (k .rows) whole in
     ap₂ (λ (t : Table) (rows : Rows). record { table = t; rows = rows }) (same .0) (same .1)
 
+-- and it is as long as an image is, byte for byte
+pub written-fits : (k : Stored) → is-sound k ≡ true → (length (as-image k) ≡ 920) × Bytes (as-image k)
+written-fits k whole = (sound-image-length (k .table) (k .rows) whole, sound-bytes (k .table) (k .rows) whole)
+
 written-sound : (k : Stored) → is-sound k ≡ true → sound-image (as-image k) ≡ true
 unfolding sound-image
 written-sound k whole =
-    both (eq-eqb (length (as-image k)) image-length (sound-image-length (k .table) (k .rows) whole))
+    both (eq-eqb (length (as-image k)) image-length (written-fits k whole .0))
     (ap (λ (l : Stored). is-sound l) (read-back k whole) ∙ whole)
 
 pub fresh-sound : (image : List ℕ) → length image ≡ 920 → sound-image (fresh-after image) ≡ true

@@ -16,15 +16,15 @@ use model::calls::START_TIMER;
 use model::requests::Request;
 use model::tables::Table;
 
-pub mod due;
-pub mod fields;
-pub mod flags;
-pub mod mutexes;
+mod due;
+mod fields;
+mod flags;
+mod mutexes;
 pub mod numbers;
-pub mod scheduling;
-pub mod semaphores;
-pub mod threads;
-pub mod timers;
+mod scheduling;
+mod semaphores;
+mod threads;
+mod timers;
 
 // Which calls there are, and whose answer each is.
 pub fn answer(t: Table, rows: [[u8; 16]; 8], q: Request) -> Answer

@@ -4,13 +4,14 @@ use crate::input;
 use crate::messages;
 use libc::STDOUT_FILENO;
 use model::tables::Table;
+use records::RECORD_LENGTH;
 
 // A whole number of records, and room for the lines of as many and for that of a bad one.
 const BLOCK: usize = 16380;
 
 const ROOM: usize = 68880;
 
-const LAST_OFFSET: u64 = u64::MAX - 16380;
+const LAST_OFFSET: u64 = u64::MAX - BLOCK as u64;
 
 struct Replayed {
     table: Table,
@@ -22,7 +23,7 @@ fn readable(filled: input::Filled) -> usize
     ensures { λ r. ⌜ r ≤ filled .count ⌝ }
 {
     if filled.failed {
-        filled.count - filled.count % 20
+        filled.count - filled.count % RECORD_LENGTH
     } else {
         filled.count
     }

@@ -1,10 +1,10 @@
 // Eight rows, each with its length in an array beside them, which the caller writes anew. Each function is that of one row, at row p.
 ghost use mathlib.Core.Path.{_≡_};
 ghost use mathlib.Core.List.{[]};
-ghost use Prim.Native.Nat.{_+_, _-_, _<_, _≤_};
+ghost use Prim.Native.Nat.{_+_, _-_, _<_};
 ghost use lib.Dec.{eqb};
 ghost use lib.ListN.{getD};
-ghost use Rattle.sequences.specs.Lists.{snoc, insert-at, remove-at, first-at, take-each};
+ghost use Rattle.sequences.specs.Lists.{snoc, remove-at, first-at, take-each};
 ghost use Rattle.rows.specs.Row.{Rows, Changed};
 use crate::row;
 
@@ -16,19 +16,6 @@ pub fn push(rows: [[u8; 16]; 8], lengths: [u8; 8], p: usize, x: u8) -> [[u8; 16]
     let n = lengths[p] as usize;
     let old = rows[p];
     let grown = row::push(old, n, x);
-    let mut all = rows;
-    all[p] = grown;
-    all
-}
-
-pub fn insert(rows: [[u8; 16]; 8], lengths: [u8; 8], p: usize, k: usize, x: u8) -> [[u8; 16]; 8]
-    requires { ⌜ Rows 16 8 rows lengths ⌝ }
-    requires { ⌜ (p < 8) × (getD lengths p 0 < 16) × (k ≤ getD lengths p 0) ⌝ }
-    ensures { λ r. ⌜ Changed 16 8 rows lengths p (getD lengths p 0 + 1) (insert-at k x) r ⌝ }
-{
-    let n = lengths[p] as usize;
-    let old = rows[p];
-    let grown = row::insert(old, n, k, x);
     let mut all = rows;
     all[p] = grown;
     all

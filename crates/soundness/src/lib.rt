@@ -15,12 +15,12 @@ use walks::OF_SLEEP;
 use walks::OF_STOPPED;
 use walks::Walk;
 
-pub mod choice;
-pub mod lists;
-pub mod objects;
-pub mod threads;
-pub mod timers;
-pub mod walks;
+mod choice;
+mod lists;
+mod objects;
+mod threads;
+mod timers;
+mod walks;
 
 fn lists_fit(t: Table, rows: [[u8; 16]; 8]) -> bool
     ensures { λ r. ⌜ r ≡ lists-fit t rows ⌝ }

@@ -27,7 +27,7 @@ pub fn choice(lengths: [u8; 8], rows: [[u8; 16]; 8]) -> u8
     NOBODY
 }
 
-pub fn with_chosen(t: Table, c: u8) -> Table
+fn with_chosen(t: Table, c: u8) -> Table
     requires { ⌜ OrderlyTable t ⌝ }
     ensures { λ r. ⌜ Meets t (with-chosen c) r ⌝ }
 {

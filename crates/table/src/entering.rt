@@ -61,7 +61,7 @@ fn place_below(ids: [u8; 16], n: usize, threads: [Thread; 16], p: u8) -> usize
 }
 
 // Past everyone with the same current priority or a higher one (01, Calls, on entering a wait list).
-pub fn rank(t: Table, j: usize, i: u8) -> usize
+fn rank(t: Table, j: usize, i: u8) -> usize
     requires { ⌜ OrderlyTable t ⌝ }
     requires { ⌜ Ranked t j i ⌝ }
     ensures { λ r. ⌜ ((rows : Rows) → r ≡ rank j i (view t rows)) ⌝ }

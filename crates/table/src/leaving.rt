@@ -47,7 +47,7 @@ pub fn leave_ready(t: Table, rows: &mut [[u8; 16]; 8], i: u8) -> Table
 }
 
 // Off all lists but the ready ones.
-pub fn leave_other(t: Table, i: u8) -> Table
+fn leave_other(t: Table, i: u8) -> Table
     requires { ⌜ OrderlyTable t ⌝ }
     requires { ⌜ count-all i (map ids-of (t .waits)) ≤ 1 ⌝ }
     ensures { λ r. ⌜ Meets t (λ s. with-waits (map (without i) (s .waits)) s) r ⌝ }

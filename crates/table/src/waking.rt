@@ -17,7 +17,7 @@ pub fn become_ready(t: Table, rows: &mut [[u8; 16]; 8], i: u8) -> Table
 }
 
 // Off its list, with no result yet.
-pub fn suspend(t: Table, rows: &mut [[u8; 16]; 8], i: u8, limit: u32, mask: u16, mode: u8) -> Table
+fn suspend(t: Table, rows: &mut [[u8; 16]; 8], i: u8, limit: u32, mask: u16, mode: u8) -> Table
     requires { ⌜ Given t (now rows) i ⌝ }
     ensures { λ r. ⌜ Does t (now (rows .entry)) (suspend i limit mask mode) r (now (rows .exit)) ⌝ }
 {

@@ -1,14 +1,14 @@
 -- What stands in a buffer once a part is put behind what stood already, alone or with one byte behind it; and several parts put there one
--- after the other.
-use mathlib.Core.Path.{_≡_, refl, ap, _∙_}
+-- after the other. Behind what is put the buffer stays as it was.
+use mathlib.Core.Path.{_≡_, refl, sym, ap, _∙_}
 use mathlib.Core.List.{List, [], _∷_, _++_, append-assoc}
 use Prim.Native.Nat.{ℕ, _+_, _-_, _≤_, _<_}
 use native.Mathlib.Nat.{add-sub-cancel-left}
 use native.Mathlib.Numerals.{add-one}
 use native.Mathlib.Omega.{arith}
-use lib.ListN.{length, take, set}
-use lib.Seq.{take-suc-set}
-use borrow.Rule.Slice.PartMut.{putMid}
+use lib.ListN.{length, take, drop, set}
+use lib.Seq.{take-suc-set, drop-drop, drop-set-lt}
+use borrow.Rule.Slice.PartMut.{putMid, drop-put}
 use Rattle.sequences.proofs.EndToEnd.{part-put, length-put}
 
 -- ---- parts one behind the other
@@ -19,6 +19,14 @@ two-behind l a b p q = q ∙ ap (λ (r : List ℕ). r ++ b) p ∙ append-assoc l
 pub four-behind : (l a b c d : List ℕ) {w x y z : List ℕ} → w ≡ l ++ a → x ≡ w ++ b → y ≡ x ++ c → z ≡ y ++ d
     → z ≡ l ++ (a ++ (b ++ (c ++ d)))
 four-behind l a b c d {w} {x} p q r s = two-behind l a (b ++ (c ++ d)) p (two-behind w b (c ++ d) q (two-behind x c d r s))
+
+-- ---- what is behind stays
+
+-- what is the same from one place on is so from any later place on
+pub rest-further : (a b : List ℕ) (m n : ℕ) → m ≤ n → drop m a ≡ drop m b → drop n a ≡ drop n b
+rest-further a b m n h e =
+    let k : m + (n - m) ≡ n = omega arith in
+    rw (sym k) (sym (drop-drop (n - m) m a) ∙ ap (drop (n - m)) e ∙ drop-drop (n - m) m b)
 
 -- ---- a part in a buffer
 
@@ -38,3 +46,12 @@ module _ (o v : List ℕ) (at k : ℕ) (l : length v ≡ k) where
       (take-suc-set (putMid at (at + k - at) o v) (at + k) byte s
       ∙ ap (λ (r : List ℕ). r ++ (byte ∷ [])) (part-behind (omega arith))
       ∙ append-assoc (take at o) v (byte ∷ []))
+
+  pub part-rest : at + k ≤ length o → drop (at + k) (putMid at (at + k - at) o v) ≡ drop (at + k) o
+  part-rest h = drop-put at (at + k) o v (omega arith) h (l ∙ sym (add-sub-cancel-left at k))
+
+  pub byte-rest : (byte : ℕ) → at + k < length o
+      → drop (at + k + 1) (set (putMid at (at + k - at) o v) (at + k) byte) ≡ drop (at + k + 1) o
+  byte-rest byte h =
+      drop-set-lt (at + k + 1) (putMid at (at + k - at) o v) (at + k) byte (omega arith)
+      ∙ rest-further _ _ (at + k) (at + k + 1) (omega arith) (part-rest (omega arith))

@@ -2,7 +2,7 @@
 ghost use mathlib.Core.Path.{_≡_};
 ghost use mathlib.Core.List.{_++_};
 ghost use Prim.Native.Nat.{_+_, _≤_};
-ghost use lib.ListN.{length, take};
+ghost use lib.ListN.{length, take, drop};
 ghost use Rattle.model.specs.Replay.{numbers, bad-record};
 ghost use Rattle.text.specs.Text.{followed, line-text};
 
@@ -15,6 +15,7 @@ fn put_number(out: &mut [u8], at: usize, n: u64, byte: u8) -> usize
     requires { ⌜ at + 21 ≤ length (now out) ⌝ }
     ensures room { λ r. ⌜ (at ≤ r) × (r ≤ at + 21) ⌝ }
     ensures text { λ r. ⌜ take r (now (out .exit)) ≡ take at (now (out .entry)) ++ followed n byte ⌝ }
+    ensures rest { λ r. ⌜ drop r (now (out .exit)) ≡ drop r (now (out .entry)) ⌝ }
 {
     let mut digits = [0u8; 20];
     let k = io::decimal(n, &mut digits);
@@ -29,6 +30,7 @@ pub fn put_numbers(out: &mut [u8], at: usize, a: u32, b: u32, c: u32, d: u32) ->
     requires { ⌜ at + 84 ≤ length (now out) ⌝ }
     ensures room { λ r. ⌜ (at ≤ r) × (r ≤ at + 84) ⌝ }
     ensures text { λ r. ⌜ take r (now (out .exit)) ≡ take at (now (out .entry)) ++ line-text (numbers a b c d) ⌝ }
+    ensures rest { λ r. ⌜ drop r (now (out .exit)) ≡ drop r (now (out .entry)) ⌝ }
 {
     let p = put_number(out, at, a as u64, SPACE);
     let q = put_number(out, p, b as u64, SPACE);
@@ -41,6 +43,7 @@ pub fn put_bad_record(out: &mut [u8], at: usize, offset: u64) -> usize
     requires { ⌜ at + 35 ≤ length (now out) ⌝ }
     ensures room { λ r. ⌜ (at ≤ r) × (r ≤ at + 35) ⌝ }
     ensures text { λ r. ⌜ take r (now (out .exit)) ≡ take at (now (out .entry)) ++ line-text (bad-record offset) ⌝ }
+    ensures rest { λ r. ⌜ drop r (now (out .exit)) ≡ drop r (now (out .entry)) ⌝ }
 {
     let words = *b"bad record at ";
     let end = at + 14;

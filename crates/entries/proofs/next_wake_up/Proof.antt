@@ -13,6 +13,9 @@ use Rattle.entries.proofs.next_wake_up.Tie as tie
 sound : (c : tie.Then1) → sound-table (c .before .before .args .t) (c .before .before .args .rows) ≡ true
 sound c = sym (c .before .is-sound .ensures) ∙ c .if1 .taken
 
+next-wake-up-requires : tie.Need-next-wake-up-requires
+next-wake-up-requires c κs = (c .before .before .args .rows, sound-whole (sound c) .order)
+
 returns : tie.Need-returns
 unfolding next-told next-told-by view
 returns c =
@@ -29,4 +32,4 @@ unfolding next-told next-told-by
 returns-2 c = rw (← c .before .before .is-sound .ensures, c .before .if1 .left) (c .unsound .ensures)
 
 pub next-wake-up-spec : {M : Type 1} → statement M
-next-wake-up-spec = tie.close (tie.spec (λ c κs. search needs) (λ c κs. search needs) (λ c κs. search needs) (λ c κs. search needs) returns returns-2)
+next-wake-up-spec = tie.close (tie.spec (λ c κs. search needs) next-wake-up-requires (λ c κs. search needs) (λ c κs. search needs) returns returns-2)

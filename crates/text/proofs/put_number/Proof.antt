@@ -6,7 +6,7 @@ use native.Mathlib.Omega.{arith}
 use lib.ListN.{length, take}
 use Rattle.text.specs.Text.{decimal}
 use Rattle.text.proofs.Decimal.{few-digits, digits-decimal}
-use Rattle.text.proofs.Buffers.{byte-behind}
+use Rattle.text.proofs.Buffers.{byte-behind, byte-rest}
 use borrow.Author.Needs.{needs}
 use Rattle.text.proofs.put_number.Statement.{statement}
 use Rattle.text.proofs.put_number.Tie as tie
@@ -43,9 +43,12 @@ returns c =
     let k : length v ≡ d .result = sym (d .ensures .0 .1) in
     let e : v ≡ decimal (a .n) = d .ensures .1 .1 ∙ digits-decimal (a .n) (d .result) n (d .ensures .1 .0) in (
       omega arith,
-      rw (c .before .before .copy .ensures)
-          (byte-behind (a .out .now) v (a .at) (d .result) k (a .byte) (omega arith)
-          ∙ ap (λ (l : List ℕ). take (a .at) (a .out .now) ++ (l ++ (a .byte ∷ []))) e),
+      (
+        rw (c .before .before .copy .ensures)
+            (byte-behind (a .out .now) v (a .at) (d .result) k (a .byte) (omega arith)
+            ∙ ap (λ (l : List ℕ). take (a .at) (a .out .now) ++ (l ++ (a .byte ∷ []))) e),
+        rw (c .before .before .copy .ensures) (byte-rest (a .out .now) v (a .at) (d .result) k (a .byte) (omega arith)),
+      ),
     )
 
 pub put-number-spec : {M : Type 1} → statement M

@@ -25,6 +25,9 @@ module _ (c : tie.Then1 Inv-loop μ-loop) where
   reached : c .before .before .loop .gap ≤ c .before .before .loop .left
   reached = c .before .within .ensures .reached (c .if1 .taken)
 
+next-wake-up-requires : tie.Need-next-wake-up-requires Inv-loop μ-loop
+next-wake-up-requires c κs = (now (c .args .rows), sound-whole (c .pre) .order)
+
 loop-holds : tie.Need-loop-holds Inv-loop μ-loop
 loop-holds c =
     let s = c .before in
@@ -86,7 +89,7 @@ pass-spec =
     (tie.spec
     Inv-loop
     μ-loop
-    (λ c κs. search needs)
+    next-wake-up-requires
     loop-holds
     (λ c κs. search needs)
     sub-left

@@ -1,4 +1,6 @@
 -- Counter by counter as the model has it, in its nesting.
+use mathlib.Core.Path.{_∙_, ap₂}
+use Rattle.sequences.specs.Lists.{nearer}
 use Rattle.model.specs.Time.{next}
 use Rattle.model.specs.Layout.{view}
 use borrow.Author.Needs.{needs}
@@ -10,7 +12,9 @@ unfolding next view
 returns c rows w =
     let limits = c .before .before in
     let timers = limits .before in
-    rw (c .nearer2 .ensures, c .before .nearer .ensures, limits .nearest-limit .ensures, timers .nearest-timer .ensures, timers .before .quantum-left .ensures rows w)
+    c .nearer2 .ensures
+    ∙ ap₂ nearer (timers .before .quantum-left .ensures rows w)
+    (c .before .nearer .ensures ∙ ap₂ nearer (timers .nearest-timer .ensures) (limits .nearest-limit .ensures))
 
 pub next-wake-up-spec : {M : Type 1} → statement M
 next-wake-up-spec =

@@ -2,6 +2,7 @@
 use mathlib.Core.Path.{refl}
 use mathlib.Core.Bool.{_&&_}
 use Prim.Native.Nat.{_≤_}
+use native.Mathlib.Omega.{arith}
 use borrow.Author.Tests.{leb-true, not-false}
 use Rattle.sequences.proofs.Tests.{left, right}
 use Rattle.model.specs.Ranges.{is-bit}
@@ -21,7 +22,7 @@ bit s =
     (left (unused-id q && is-bit (q .a)) (unused-bcd q) (not-false _ (not-due (s .pre .1) 0 refl))))
 
 sub-with-off : tie.Need-sub-with-off
-sub-with-off c = bit (c .before)
+sub-with-off c = let h = bit (c .before) in omega (arith, h)
 
 with-off-requires : tie.Need-with-off-requires
 with-off-requires c κs = whole (c .before .pre .1) .order .table
