@@ -1,5 +1,5 @@
--- What 01 names as unfit, and two errors of its list: each as a property of kernels, and a kernel that has it. The properties ask no more than
--- the fault itself, so that whatever else such a kernel does is shut out with it.
+-- What 01 names as unfit, and two errors of its list: each as a property of kernels, and a kernel that has it. A property asks no more than the
+-- fault itself, two of them on tables that are right but for it, so that whatever else such a kernel does is shut out with it.
 use mathlib.Core.Path.{_≡_}
 use mathlib.Core.Bool.{true, false, cond, not, _&&_}
 use Prim.Native.Nat.{ℕ, suc, _+_, _≤_, _<_}
@@ -77,7 +77,7 @@ Handles-first-only K =
     (s : State) → sound s ≡ true → (n k : ℕ) → fits-32 n ≡ true → Next s (suc k) → suc k ≤ n
     → K s (advancing n) .after ≡ with-clock (wrap (s .clock + n)) (after-ticks (suc k) s)
 
-abbrev pub once : ℕ → State → State
+abbrev once : ℕ → State → State
 once n s = cond (ltb 0 (next s) && leb (next s) n) (with-clock (wrap (s .clock + n)) (after-ticks (next s) s)) (after-ticks n s)
 
 abbrev pub handling-once : Kernel
