@@ -1,12 +1,12 @@
 -- What a list asks, place by place: what has been found so far, and what the list asks from the place on, are together what it asks.
 use mathlib.Core.Path.{_≡_, refl}
-use mathlib.Core.Bool.{Bool, true, false, _&&_, _||_, and-true, and-false}
-use mathlib.Core.List.{List, map}
-use Prim.Native.Nat.{ℕ, suc, _+_, _<_, _≤_}
+use mathlib.Core.Bool.{Bool, true, false, _&&_, _||_, and-true, and-false, or-true}
+use mathlib.Core.List.{List, [], map}
+use Prim.Native.Nat.{ℕ, zero, suc, _+_, _<_, _≤_}
 use native.Mathlib.Numerals.{add-one}
 use native.Mathlib.Omega.{arith}
 use lib.Dec.{eqb, leb, ltb}
-use lib.ListN.{length, getD, drop, length-map, List·getD-map, drop-of-length-le}
+use lib.ListN.{length, getD, take, drop, length-map, List·getD-map, drop-of-length-le}
 use lib.Seq.{drop-cons}
 use Rattle.sequences.specs.Lists.{every}
 use Rattle.sequences.proofs.Bounds.{falls-behind, falls-step, falls-end}
@@ -14,7 +14,16 @@ use Rattle.model.specs.declared.tables.Thread.{Thread}
 use Rattle.model.specs.Layout.{thread-at}
 use Rattle.soundness.specs.Lists.{member-fits, list-asks, of-object}
 
-one-before-rest : (a f e s z o r : Bool) → a && ((f && e) && (s || ((z || o) && r))) ≡ ((a && f) && ((s || z) || o)) && (e && (s || r))
+-- a list of length 0 has nobody on it, and asks nothing
+pub nobody : (n : ℕ) (ids : List ℕ) → n ≤ 0 → take n ids ≡ []
+nobody zero ids h = refl
+nobody (suc n) ids h = absurd (omega arith)
+
+pub nobody-asked : (kind mark : ℕ) (threads : List Thread) {ids : List ℕ} → ids ≡ [] → list-asks kind mark threads ids ≡ true
+unfolding list-asks
+nobody-asked kind mark threads e = rw e (or-true (ltb kind of-object))
+
+one-before-rest : (a f e s z o r : Bool) → a && ((f && e) && (s || ((z || o) && r))) ≡ (a && (f && ((s || z) || o))) && (e && (s || r))
 one-before-rest false f e s z o r = refl
 one-before-rest true false e s z o r = refl
 one-before-rest true true e true z o r = refl
@@ -38,7 +47,8 @@ module _ (kind mark : ℕ) (threads : List Thread) (ids : List ℕ) where
 
   pub asks-step : (k before : ℕ) (a : Bool) → k < length ids
       → a && rest-asks k before
-      ≡ ((a && fits (getD ids k 0)) && ((ltb kind of-object || eqb k 0) || leb (level (getD ids k 0)) before)) && rest-asks (k + 1) (level (getD ids k 0))
+      ≡ (a && (fits (getD ids k 0) && ((ltb kind of-object || eqb k 0) || leb (level (getD ids k 0)) before)))
+      && rest-asks (k + 1) (level (getD ids k 0))
   unfolding rest-asks
   asks-step k before a h =
       let i : k < length (map level ids) = omega (arith, length-map ids level) in

@@ -13,8 +13,11 @@ use Rattle.sequences.proofs.Slices.{count-all-slice}
 use Rattle.sequences.proofs.Tests.{every-below-at}
 use Rattle.model.specs.declared.tables.IdList.{IdList}
 use Rattle.model.specs.Layout.{ids-of, no-ids, list-at}
-use Rattle.soundness.specs.Lists.{Tallied, wait-list-fits}
+use Rattle.soundness.specs.Lists.{CountsUpTo, Tallied, wait-list-fits}
 use Rattle.soundness.proofs.Fitting.{fitting}
+
+pub up-to-more : {m n : ℕ} {counts : List ℕ} → m ≤ n → CountsUpTo m counts → CountsUpTo n counts
+up-to-more h v = record { size = v .size; small = λ i j. omega (arith, v .small i j) }
 
 -- a list with nobody on it
 pub tallied-empty : (counts : List ℕ) → length counts ≡ 16 → Tallied counts ([] ∷ []) counts
@@ -52,8 +55,15 @@ module _ (waits : List IdList) (size : length waits ≡ 18) (e : every-below 18 
       rw length-take (omega arith)
 
   pub waits-small : (from to n : ℕ) {before after : List ℕ} → from ≤ to → to ≤ 18 → Tallied before (slice from to (map ids-of waits)) after
-      → ((i : ℕ) → i < 16 → getD before i 0 ≤ n) → (i : ℕ) → i < 16 → getD after i 0 ≤ n + 288
-  waits-small from to n h k w small i j =
-      let many : length (map ids-of waits) ≡ 18 = length-map waits ids-of ∙ size in
-      let most = count-all-most 16 i (map ids-of waits) (λ k g. rw (List·getD-map ids-of waits k no-ids) (waits-short k (omega arith))) in
-      omega (arith, w .at i j, small i j, count-all-slice i (map ids-of waits) from to h (omega arith))
+      → CountsUpTo n before → CountsUpTo (n + 288) after
+  waits-small from to n h k w v =
+      let lists = map ids-of waits in
+      let many : length lists ≡ 18 = length-map waits ids-of ∙ size in
+      let short : (k : ℕ) → k < length lists → length (getD lists k []) ≤ 16 =
+      λ k g. rw (List·getD-map ids-of waits k no-ids) (waits-short k (omega arith)) in
+      record {
+        size = w .size;
+        small = λ i j.
+            let most = count-all-most 16 i lists short in
+            omega (arith, w .at i j, v .small i j, count-all-slice i lists from to h (omega arith));
+      }

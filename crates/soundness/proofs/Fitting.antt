@@ -1,30 +1,30 @@
 -- What a stored list that fits is, place by place, and that the test passes exactly there.
 use mathlib.Core.Path.{_≡_, refl}
-use mathlib.Core.Bool.{Bool, true, false, _&&_, _||_, or-true}
+use mathlib.Core.Bool.{Bool, true, false}
 use mathlib.Core.List.{List}
-use Prim.Native.Nat.{ℕ, _<_, _≤_}
-use native.Mathlib.Decide.{ℕ-discrete}
+use Prim.Native.Nat.{ℕ, _+_, _-_, _<_, _≤_}
 use native.Mathlib.Omega.{arith}
-use borrow.Author.Tests.{ne-eqb, leb-true, le-leb, ltb-true, ltb-false, lt-ltb, le-ltb}
-use lib.Dec.{eqb, leb, ltb}
+use borrow.Author.Tests.{leb-true, le-leb, ltb-true, ltb-false, lt-ltb}
+use lib.Dec.{leb, ltb}
 use lib.ListN.{length, getD, take}
 use lib.Seq.{getD-take}
 use Rattle.sequences.specs.Lists.{every, every-below}
-use Rattle.sequences.proofs.Tests.{both, left, right, same-truth, every-at, every-from, every-below-at, every-below-from}
+use Rattle.sequences.proofs.Tests.{both, left, right, same-truth, untrue, every-at, every-from, every-below-at, every-below-from}
 use Rattle.rows.specs.Row.{Row}
 use Rattle.rows.proofs.Rows.{row-from, zero-past, length-held}
 use Rattle.model.specs.Sound.{ids-in-range}
 use Rattle.model.specs.Layout.{row-orderly}
 use Rattle.table.proofs.Stored.{row-facts, row-test}
-use Rattle.soundness.specs.Lists.{list-fits}
+use Rattle.soundness.specs.Lists.{list-fits, tops}
+use Rattle.soundness.proofs.Tops.{top-before, top-past}
 
 pub record Fitting (n : ℕ) (places : List ℕ) : Type 0 where
   pub row : Row 16 places n
   pub ids : (k : ℕ) → k < n → getD places k 0 < 16
 
--- a place of a stored list: 0, or before the end and a thread's id
+-- a place of a stored list, by the highest id that it may hold
 abbrev pub place-fits : ℕ → List ℕ → ℕ → Bool
-place-fits n row k = eqb (getD row k 0) 0 || (ltb k n && ltb (getD row k 0) 16)
+place-fits n row k = leb (getD row k 0) (getD tops (16 - n + k) 0)
 
 module _ (n : ℕ) (row : List ℕ) where
   pub fitting : list-fits n row ≡ true → Fitting n row
@@ -47,33 +47,28 @@ module _ (n : ℕ) (row : List ℕ) where
       (every-from (λ i. ltb i 16) 0 (take n row)
       (λ k i. let h : k < n = omega (arith, length-held (w .row)) in rw (getD-take n row k 0 h) (lt-ltb (getD row k 0) 16 (w .ids k h))))
 
-  module _ (size : length row ≡ 16) where
-    fitting-places : n ≤ 16 → every-below 16 (place-fits n row) ≡ true → Fitting n row
-    fitting-places room e =
+  -- there is room for sixteen
+  pub too-long : 16 < n → list-fits n row ≡ false
+  too-long h = untrue (list-fits n row) (λ e. absurd (omega (arith, fitting e .row .room)))
+
+  module _ (size : length row ≡ 16) (room : n ≤ 16) where
+    fitting-places : every-below 16 (place-fits n row) ≡ true → Fitting n row
+    fitting-places e =
+        let most : (k : ℕ) → k < 16 → getD row k 0 ≤ getD tops (16 - n + k) 0 =
+        λ k h. leb-true _ _ (every-below-at (place-fits n row) 16 k h e) in
         record {
-          row =
-              row-from row size room
-              (λ k i j.
-              elim (ℕ-discrete (getD row k 0) 0) [
-                | yes s ↦ s
-                | no s ↦ let z : false ≡ true = rw (ne-eqb _ _ s, le-ltb k n i) at (every-below-at (place-fits n row) 16 k j e) in cc
-              ]);
-          ids = λ k i.
-              elim (ℕ-discrete (getD row k 0) 0) [
-                | yes s ↦ rw s (omega arith)
-                | no s ↦ ltb-true _ _ (right (ltb k n) (ltb (getD row k 0) 16) (rw (ne-eqb _ _ s) at (every-below-at (place-fits n row) 16 k (omega arith) e)))
-              ];
+          row = row-from row size room (λ k i j. omega (arith, most k j, top-past n k i j));
+          ids = λ k i. omega (arith, most k (omega arith), top-before n k room i);
         }
 
-    place-of : Fitting n row → (k : ℕ) → k < 16 → (b : Bool) → ltb k n ≡ b → eqb (getD row k 0) 0 || (b && ltb (getD row k 0) 16) ≡ true
-    place-of w k i true h = rw (lt-ltb (getD row k 0) 16 (w .ids k (ltb-true k n h))) (or-true (eqb (getD row k 0) 0))
-    place-of w k i false h = rw (zero-past (w .row) k (ltb-false k n h) i)
+    place-of : Fitting n row → (k : ℕ) → k < 16 → (b : Bool) → ltb k n ≡ b → place-fits n row k ≡ true
+    place-of w k i true h =
+        let j = ltb-true k n h in
+        le-leb (getD row k 0) (getD tops (16 - n + k) 0) (omega (arith, top-before n k room j, w .ids k j))
+    place-of w k i false h = le-leb (getD row k 0) (getD tops (16 - n + k) 0) (omega (arith, zero-past (w .row) k (ltb-false k n h) i))
 
     -- the test, place by place
-    pub fits-by-place : leb n 16 && every-below 16 (place-fits n row) ≡ list-fits n row
+    pub fits-by-place : every-below 16 (place-fits n row) ≡ list-fits n row
     fits-by-place =
-        same-truth (leb n 16 && every-below 16 (place-fits n row)) (list-fits n row)
-        (λ e.
-        let room = left (leb n 16) (every-below 16 (place-fits n row)) e in
-        fits (fitting-places (leb-true n 16 room) (right (leb n 16) (every-below 16 (place-fits n row)) e)))
-        (λ e. both (le-leb n 16 (fitting e .row .room)) (every-below-from (place-fits n row) 16 (λ k i. place-of (fitting e) k i (ltb k n) refl)))
+        same-truth (every-below 16 (place-fits n row)) (list-fits n row) (λ e. fits (fitting-places e))
+        (λ e. every-below-from (place-fits n row) 16 (λ k i. place-of (fitting e) k i (ltb k n) refl))

@@ -96,15 +96,15 @@ module _ (t : Table) (rows : Rows) (w : Shape t rows) where
       (λ o h. ap (every (λ i. unmet o i && masked i)) (sym (list-view t rows (14 + o))) ∙ every-two (unmet o) masked 0 (waiting o))
       ∙ every-below-both (λ o. every (unmet o) (waiting o)) (λ o. every masked (waiting o)) 4)
 
-  -- the groups in the walk's order, and what it has found after each
+  -- the groups in the walk's order, and what it has found of each
   pub members-by-clauses : {flags objects sleep stopped ready : Bool}
-      → flags ≡ flags-ask t → objects ≡ flags && objects-ask t → sleep ≡ objects && sleep-asks t → stopped ≡ sleep && stopped-asks t
-      → ready ≡ stopped && ready-ask t rows → ready ≡ members-fit (view t rows)
+      → flags ≡ flags-ask t → objects ≡ objects-ask t → sleep ≡ sleep-asks t → stopped ≡ stopped-asks t → ready ≡ ready-ask t rows
+      → flags && objects && sleep && stopped && ready ≡ members-fit (view t rows)
   unfolding members-fit
   members-by-clauses a b c d e =
       let s = view t rows in
       let objects = every-below-same _ (λ k. list-in-order t (2 + k)) 12 (λ k h. asks-order t (ids-of (list-at (t .waits) (2 + k)))) in
       let stopped = every-below-from _ 1 (λ k h. asks-nothing t (ids-of (list-at (t .waits) (1 + k)))) in
-      rw (e, d, c, b, a, flags-clauses, objects, sleep-clause, stopped, ready-clause, ← order-clause)
+      rw (a, b, c, d, e, flags-clauses, objects, sleep-clause, stopped, ready-clause, ← order-clause)
       (sorted-by-clause (conditions-unmet s) (flag-waiters-masked s) (every-below 4 (λ o. list-in-order t (14 + o)))
       (every-below 12 (λ k. list-in-order t (2 + k))) (sleepers-limited s) (ready-by-priority s))

@@ -1,10 +1,10 @@
 -- What the soundness test asks of one list, and how it counts: over the fields as they are stored, whatever they are.
 use mathlib.Core.Bool.{Bool, true, not, _&&_, _||_}
-use mathlib.Core.List.{List, map}
+use mathlib.Core.List.{List, map, _++_}
 use mathlib.Core.Path.{_≡_}
-use Prim.Native.Nat.{ℕ, zero, suc, _+_, _<_}
+use Prim.Native.Nat.{ℕ, zero, suc, _+_, _<_, _≤_}
 use lib.Dec.{eqb, leb, ltb}
-use lib.ListN.{length, take, getD}
+use lib.ListN.{length, take, getD, replicate}
 use Rattle.sequences.specs.Lists.{count-all, every, falls}
 use Rattle.model.specs.declared.tables.Thread.{Thread}
 use Rattle.model.specs.declared.tables.IdList.{IdList}
@@ -19,6 +19,10 @@ list-fits n ids = row-orderly n ids && ids-in-range (take n ids)
 
 abbrev pub wait-list-fits : IdList → Bool
 wait-list-fits l = list-fits (l .length) (l .ids)
+
+-- the highest id that each place of a list may hold: a list of length n has the sixteen from place 16 - n on
+unfoldable pub tops : List ℕ
+tops = replicate 16 15 ++ replicate 16 0
 
 -- the kinds of lists
 abbrev pub of-ready : ℕ
@@ -51,12 +55,17 @@ unfoldable pub list-asks : ℕ → ℕ → List Thread → List ℕ → Bool
 list-asks kind mark threads ids =
     every (λ i. member-fits kind mark (thread-at threads i)) ids && (ltb kind of-object || falls (map (λ i. thread-at threads i .current) ids))
 
+-- counts of the sixteen threads, none of them above this
+pub record CountsUpTo (most : ℕ) (counts : List ℕ) : Type 0 where
+  pub size : length counts ≡ thread-count
+  pub small : (i : ℕ) → i < thread-count → getD counts i 0 ≤ most
+
 -- counts of the sixteen threads, after these lists have been counted too
 pub record Tallied (before : List ℕ) (lists : List (List ℕ)) (after : List ℕ) : Type 0 where
   pub size : length after ≡ thread-count
   pub at : (i : ℕ) → i < thread-count → getD after i 0 ≡ getD before i 0 + count-all i lists
 
--- a walk that had found this much, after it has gone over these lists too, which ask this
-pub record Walked (fits : Bool) (counts : List ℕ) (asked : Bool) (lists : List (List ℕ)) (fits-after : Bool) (counts-after : List ℕ) : Type 0 where
-  pub found : fits-after ≡ (fits && asked)
+-- a walk over these lists, which ask this: what it found, and the counts before and after it
+pub record Walked (counts : List ℕ) (asked : Bool) (lists : List (List ℕ)) (found : Bool) (counts-after : List ℕ) : Type 0 where
+  pub answer : found ≡ asked
   pub tallied : Tallied counts lists counts-after

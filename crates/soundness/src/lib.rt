@@ -13,7 +13,6 @@ use model::tables::Table;
 use walks::OF_OBJECT;
 use walks::OF_SLEEP;
 use walks::OF_STOPPED;
-use walks::Walk;
 
 mod choice;
 mod lists;
@@ -27,8 +26,9 @@ fn lists_fit(t: Table, rows: [[u8; 16]; 8]) -> bool
 {
     let lengths = t.lengths;
     let waits = t.waits;
-    let ready = lists::ready_lists_fit(rows, lengths);
-    let others = lists::wait_lists_fit(waits);
+    let most = lists::MOST;
+    let ready = lists::ready_lists_fit(rows, lengths, &most);
+    let others = lists::wait_lists_fit(waits, &most);
     ready & others
 }
 
@@ -44,28 +44,30 @@ fn threads_fit(t: Table, rows: [[u8; 16]; 8]) -> bool
     let flags = t.flags;
     let lengths = t.lengths;
     let mutexes = t.mutexes;
-    let none: [u16; 16] = [0; 16];
-    let start = Walk {
-        fits: true,
-        counts: none,
-    };
-    let flagged = walks::walk_flags(start, waits, all, flags);
-    let waiting = walks::walk_waits(flagged, waits, SEMAPHORE_LIST, FLAGS_LIST, all, OF_OBJECT);
-    let resting = walks::walk_waits(waiting, waits, SLEEP_LIST, STOPPED_LIST, all, OF_SLEEP);
+    let mut counts = [0u16; 16];
+    let flagged = walks::walk_flags(&mut counts, waits, all, flags);
+    let on_flags = counts;
+    let waiting = walks::walk_waits(
+        &mut counts,
+        waits,
+        SEMAPHORE_LIST,
+        FLAGS_LIST,
+        all,
+        OF_OBJECT,
+    );
+    let asleep = walks::walk_waits(&mut counts, waits, SLEEP_LIST, STOPPED_LIST, all, OF_SLEEP);
+    let at_rest = counts;
     let parked = walks::walk_waits(
-        resting,
+        &mut counts,
         waits,
         STOPPED_LIST,
         SEMAPHORE_LIST,
         all,
         OF_STOPPED,
     );
-    let last = walks::walk_ready(parked, rows, lengths, all);
-    let on_lists = last.counts;
-    let at_rest = resting.counts;
-    let on_flags = flagged.counts;
-    let fits = threads::threads_fit(all, mutexes, on_lists, at_rest, on_flags);
-    last.fits & fits
+    let ready = walks::walk_ready(&mut counts, rows, lengths, all);
+    let fits = threads::threads_fit(all, mutexes, counts, at_rest, on_flags);
+    flagged & waiting & asleep & parked & ready & fits
 }
 
 fn records_fit(t: Table, rows: [[u8; 16]; 8]) -> bool

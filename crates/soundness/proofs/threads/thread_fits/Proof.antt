@@ -5,16 +5,17 @@ use Prim.Native.Nat.{ℕ}
 use borrow.Author.Needs.{needs}
 use lib.Dec.{eqb, leb, ltb}
 use Rattle.model.specs.declared.tables.Thread.{Thread}
+use Rattle.model.specs.Ranges.{_implies_}
 use Rattle.model.specs.Sound.{thread-in-range, zero-thread}
 use Rattle.soundness.specs.Records.{thread-fits}
 use Rattle.soundness.proofs.Positive.{not-positive}
 use Rattle.soundness.proofs.threads.thread_fits.Statement.{statement}
 use Rattle.soundness.proofs.threads.thread_fits.Tie as tie
 
-fits-spread : (t : Thread) (standing resting flagged : ℕ) (owner in-range zero : Bool) → in-range ≡ thread-in-range t → zero ≡ zero-thread t
+fits-spread : (t : Thread) (standing resting flagged : ℕ) (owner in-range zero : Bool) → in-range ≡ thread-in-range t → zero ≡ (eqb (t .created) 0 implies zero-thread t)
     → in-range
     && eqb standing (t .created)
-    && (not (eqb (t .created) 0) || zero)
+    && zero
     && (leb (t .base) (t .current) && (owner || eqb (t .current) (t .base)))
     && (not (eqb resting 0) || eqb (t .limit) 0)
     && (not (eqb flagged 0) || eqb (t .mask) 0 && eqb (t .mode) 0)
@@ -26,10 +27,10 @@ fits-spread t standing resting flagged owner in-range zero p q = rw (p, q) (simp
 
 returns : tie.Need-returns
 returns c =
-    let d = c .before .before .before .before .before .before .before .before .before .before .before in
+    let d = c .before .before .before .before .before .before .before .before .before .before in
     let a = d .before .before .args in
-    fits-spread (a .t) (a .standing) (a .resting) (a .flagged) (a .owner) (d .before .thread-in-range .result) (d .zero-thread .result)
-    (d .before .thread-in-range .ensures) (d .zero-thread .ensures)
+    fits-spread (a .t) (a .standing) (a .resting) (a .flagged) (a .owner) (d .before .thread-in-range .result) (d .absent-is-zero .result)
+    (d .before .thread-in-range .ensures) (d .absent-is-zero .ensures)
 
 pub thread-fits-spec : {M : Type 1} → statement M
 thread-fits-spec =

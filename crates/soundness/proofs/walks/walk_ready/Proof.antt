@@ -2,6 +2,7 @@
 use mathlib.Core.Path.{_≡_, _∙_}
 use mathlib.Core.Bool.{Bool, true}
 use mathlib.Core.List.{List, []}
+use mathlib.Core.Logic.{inl, inr}
 use Prim.Native.Nat.{ℕ, _<_, _≤_, _-_}
 use borrow.Author.Needs.{needs}
 use native.Mathlib.Omega.{arith}
@@ -12,7 +13,9 @@ use Rattle.sequences.proofs.Places.{take-each-at, length-take-each}
 use Rattle.model.specs.declared.tables.Thread.{Thread}
 use Rattle.soundness.specs.Lists.{list-fits, list-asks, of-ready}
 use Rattle.soundness.proofs.Fitting.{fitting}
-use Rattle.soundness.proofs.Walking.{Walking, walking-none, walking-more, walking-all}
+use Rattle.soundness.proofs.Asking.{nobody, nobody-asked}
+use Rattle.soundness.proofs.Counting.{up-to-more}
+use Rattle.soundness.proofs.Walking.{Walking, walking-none, walking-more, walking-past, walking-all}
 use Rattle.soundness.proofs.walks.walk_ready.Statement.{statement}
 use Rattle.soundness.proofs.walks.walk_ready.Tie as tie
 
@@ -20,11 +23,11 @@ abbrev asks-at : List Thread → List (List ℕ) → List ℕ → ℕ → Bool
 asks-at threads rows lengths p = list-asks of-ready p threads (take (getD lengths p 0) (getD rows p []))
 
 abbrev Inv-loop : tie.InvT-loop
-Inv-loop threads rows lengths after₀ p₀ after p =
-    (p ≤ 8) × Walking (after₀ .fits) (after₀ .counts) (asks-at threads rows lengths) (take-each lengths rows) p (after .fits) (after .counts)
+Inv-loop counts₀ threads rows lengths fits₀ p₀ counts fits p =
+    (p ≤ 8) × Walking counts₀ (asks-at threads rows lengths) (take-each lengths rows) p fits counts
 
 abbrev μ-loop : tie.MeasureT-loop
-μ-loop threads rows lengths after₀ p₀ after p = 8 - p
+μ-loop counts₀ threads rows lengths fits₀ p₀ counts fits p = 8 - p
 
 -- there are eight lists
 many : (s : tie.Start Inv-loop μ-loop) → length (take-each (s .args .t3) (s .args .t2)) ≡ 8
@@ -36,29 +39,40 @@ many s =
 -- the turn's list fits
 fits-there : (b : tie.At-loop Inv-loop μ-loop) → b .loop .p < 8
     → list-fits (getD (b .before .args .t3) (b .loop .p) 0) (getD (b .before .args .t2) (b .loop .p) []) ≡ true
-fits-there b h = every-below-at (λ p. list-fits (getD (b .before .args .t3) p 0) (getD (b .before .args .t2) p [])) 8 (b .loop .p) h (b .before .pre .0)
+fits-there b h =
+    let a = b .before .args in
+    every-below-at (λ p. list-fits (getD (a .t3) p 0) (getD (a .t2) p [])) 8 (b .loop .p) h (b .before .pre .0)
 
 loop-holds : tie.Need-loop-holds Inv-loop μ-loop
-loop-holds c = (omega arith, walking-none _ _ (search needs) (c .pre .1))
+loop-holds c = (omega arith, walking-none _ _ (c .pre .1))
 
 walk-ids-requires : tie.Need-walk-ids-requires Inv-loop μ-loop
 walk-ids-requires c κs =
-    let b = c .before .before in
-    (fits-there b (c .before .loop-test .taken), λ i h. omega (arith, b .loop .inv .1 .small i h))
+    let b = c .before .before .before .before in
+    (fits-there b (c .before .before .before .loop-test .taken), up-to-more (omega arith) (b .loop .inv .1 .within))
 
 loop-again : tie.Need-loop-again Inv-loop μ-loop
 loop-again c =
-    let b = c .before .before .before in
+    let b = c .before .before in
     let a = b .before .args in
     let p = b .loop .p in
-    let w = fitting (getD (a .t3) p 0) (getD (a .t2) p []) (fits-there b (c .before .before .loop-test .taken)) in
+    let n = getD (a .t3) p 0 in
+    let row = getD (a .t2) p [] in
+    let w = fitting n row (fits-there b (c .before .loop-test .taken)) in
     let wide : length (a .t3) ≡ 8 = search needs in
     let tall : length (a .t2) ≡ 8 = search needs in
     let at = take-each-at (a .t3) (a .t2) p (omega arith) (omega arith) in
-    let room : length (take (getD (a .t3) p 0) (getD (a .t2) p [])) ≤ 16 = rw length-take (omega arith) in (
+    let room : length (take n row) ≤ 16 = rw length-take (omega arith) in
+    let asks = asks-at (a .threads) (a .t2) (a .t3) in
+    let lists = take-each (a .t3) (a .t2) in
+    let below : p < length lists = omega (arith, many (b .before)) in (
       omega arith,
-      walking-more (asks-at (a .threads) (a .t2) (a .t3)) (take-each (a .t3) (a .t2)) (b .loop .inv .1) (omega (arith, many (b .before))) (rw at room)
-          (rw at (c .walk-ids .ensures)),
+      elim (c .if1 .came) [
+        | inl walk ↦ rw (walk .4, walk .5) (walking-more asks lists (b .loop .inv .1) below (rw at room) (rw at (walk .3 .ensures)))
+        | inr past ↦
+            let none = nobody n row (past .0 .left) in
+            rw (past .1, past .2) (walking-past asks lists (b .loop .inv .1) below (at ∙ none) (nobody-asked of-ready p (a .threads) none))
+      ],
     )
 
 returns : tie.Need-returns Inv-loop μ-loop
