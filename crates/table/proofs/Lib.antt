@@ -4,6 +4,8 @@ pub mod StoredLists
 pub mod Finds
 pub mod Ready
 pub mod Rooms
+pub mod Written
+pub mod OffList
 pub mod Retaking
 pub mod Stored
 pub mod LaidSound

@@ -5,13 +5,14 @@ use mathlib.Core.Bool.{true}
 use mathlib.Core.List.{List, []}
 use Prim.Native.Nat.{ℕ, _+_, _-_, _<_, _≤_}
 use native.Mathlib.Omega.{arith}
-use borrow.Author.Tests.{ltb-true}
+use borrow.Author.Tests.{ltb-true, lt-ltb}
 use lib.Dec.{eqb, ltb}
-use lib.ListN.{getD, set}
+use lib.ListN.{length, getD, set}
 use Rattle.sequences.specs.Lists.{count, first-at, remove-at, without, snoc, take-each}
 use Rattle.sequences.proofs.Counts.{count-all-at, first-counts}
 use Rattle.sequences.proofs.Places.{alter-alike}
 use Rattle.sequences.proofs.Removal.{without-once}
+use Rattle.sequences.proofs.Searches.{first-at-most}
 use Rattle.rows.specs.Row.{Changed}
 use Rattle.rows.proofs.Rows.{length-at}
 use Rattle.model.specs.declared.tables.Thread.{Thread}
@@ -40,6 +41,17 @@ module _ {t : Table} {rows : layout.Rows} {i : ℕ} {x : Thread} (e : x ≡ thre
         ap (ltb (found t rows i (x .current))) (sym (length-at (g .whole .order .ready) (x .current) priority-below))
         ∙ first-counts i (getD (take-each (t .lengths) rows) (x .current) [])
         ∙ rw e (sym (ready-level (g .whole .placed) i))
+
+    -- a search that ends before the list does has found it
+    pub ready-if-found : {k : ℕ} → k ≡ found t rows i (x .current) → (k ≡ getD (t .lengths) (x .current) 0 → ⊥)
+        → is-ready i (view t rows) ≡ true
+    ready-if-found at before =
+        let place = found t rows i (x .current) in
+        let n = getD (t .lengths) (x .current) 0 in
+        let l = getD (take-each (t .lengths) rows) (x .current) [] in
+        let many : length l ≡ n = length-at (g .whole .order .ready) (x .current) priority-below in
+        let below : place < n = omega (arith, at, before, many, first-at-most (λ (y : ℕ). eqb y i) l) in
+        sym found-ready ∙ lt-ltb place n below
 
     module _ {k : ℕ} (ready : is-ready i (view t rows) ≡ true) (at : k ≡ found t rows i (x .current)) where
       pub place-found : k < getD (t .lengths) (x .current) 0

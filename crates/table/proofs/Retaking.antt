@@ -1,21 +1,18 @@
 -- A new current priority between leaving and entering again is the model's change and then its move.
 use mathlib.Core.Path.{_≡_}
 use mathlib.Core.Bool.{true, false}
-use Prim.Native.Nat.{ℕ, _<_, _≤_}
+use Prim.Native.Nat.{ℕ, _<_}
 use native.Mathlib.Omega.{arith}
-use Rattle.sequences.specs.Lists.{count, count-all}
-use Rattle.sequences.proofs.Counts.{count-all-at}
-use Rattle.sequences.proofs.Parts.{none-counted}
 use Rattle.model.specs.declared.tables.Table.{Table}
 use Rattle.model.specs.State.{State}
 use Rattle.model.specs.Parts.{alter-thread, with-current}
 use Rattle.model.specs.Words.{is-ready, is-waiting, list-of, leave, become-ready, enter-ready, enter-by-priority, re-enter}
 use Rattle.model.specs.Layout as layout
-use Rattle.model.specs.Layout.{view, ids-of, list-at}
+use Rattle.model.specs.Layout.{view}
 use Rattle.placed.proofs.Standing.{leave-gone, leave-placed, unready-placed}
 use Rattle.table.specs.Orderly.{Given, Meets, Does}
 use Rattle.table.proofs.Rooms.{Off, off-after}
-use Rattle.table.proofs.Views.{does, and-then, list-view}
+use Rattle.table.proofs.Views.{does, and-then}
 
 -- ---- the model's move, by where the thread stands
 
@@ -43,12 +40,3 @@ retaken-off {t} {u} {v} {rows} {after} {i} g p below d m =
     off-after (and-then d (does after (d .order) m)) (g .thread)
     (unready-placed i (with-current p) (leave i s) below (omega (arith, leave-gone i s)) (leave-placed i s (g .whole .placed)))
     (leave-gone i s)
-
--- ---- off a list that is no ready list
-
-module _ {t : Table} {rows : layout.Rows} {i : ℕ} (g : Given t rows i) where
-  pub not-ready : is-ready i (view t rows) ≡ false → count-all i (view t rows .ready) ≡ 0
-  not-ready h = none-counted i (view t rows .ready) h
-
-  pub once-on : (j : ℕ) → count i (ids-of (list-at (t .waits) j)) ≤ 1
-  once-on j = rw (← list-view t rows j) (omega (arith, g .whole .placed .once i, count-all-at i (view t rows .waits) j))

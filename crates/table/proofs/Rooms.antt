@@ -7,7 +7,7 @@ use Rattle.rows.proofs.Rows.{length-held, length-at}
 use Rattle.model.specs.declared.tables.Table.{Table}
 use Rattle.model.specs.State.{State}
 use Rattle.model.specs.Parts.{list, alter-thread, with-wait}
-use Rattle.model.specs.Words.{suspend}
+use Rattle.model.specs.Words.{leave, suspend}
 use Rattle.model.specs.Layout as layout
 use Rattle.model.specs.Layout.{view, list-at, thread-at}
 use Rattle.placed.specs.Placed.{Placed, standing}
@@ -50,7 +50,11 @@ module _ {t : Table} {rows : layout.Rows} {i : ℕ} (w : Off t rows i) where
   ranked j h =
       record { list = h; thread = w .given .thread; ids = listed-below (w .given .whole) j h }
 
--- who was suspended is off all lists
+-- who left is off all lists, and so is who was suspended
+pub left-off : {t r : Table} {rows after : layout.Rows} {i : ℕ} → Given t rows i → Does t rows (leave i) r after → Off r after i
+left-off {t} {rows = rows} {i = i} g d =
+    off-after d (g .thread) (leave-placed i (view t rows) (g .whole .placed)) (leave-gone i (view t rows))
+
 pub suspended-off : {t r : Table} {rows after : layout.Rows} {i : ℕ} → Given t rows i → (limit mask mode : ℕ) → Does t rows (suspend i limit mask mode) r after → Off r after i
 unfolding suspend
 suspended-off {t} {r} {rows} {after} {i} g limit mask mode d =

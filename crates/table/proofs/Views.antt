@@ -19,13 +19,16 @@ use Rattle.model.specs.declared.tables.IdList.{IdList}
 use Rattle.model.specs.declared.tables.Table.{Table}
 use Rattle.model.specs.State.{State, absent-thread, absent-semaphore, absent-mutex, absent-flags, unused-timer}
 use Rattle.model.specs.Parts.{thread, list, with-threads, with-semaphores, with-mutexes, with-flags, with-timers, with-waits, with-ready}
-use Rattle.model.specs.Parts.{alter-thread, alter-semaphore, alter-mutex, alter-flags, alter-timer}
+use Rattle.model.specs.Parts.{with-chosen, alter-thread, alter-semaphore, alter-mutex, alter-flags, alter-timer}
 use Rattle.model.specs.Words.{rank}
 use Rattle.model.specs.Layout as layout
-use Rattle.model.specs.Layout.{view, ids-of, no-ids, list-at}
+use Rattle.model.specs.Layout.{view, ids-of, no-ids, list-at, thread-at}
 use Rattle.table.specs.Orderly.{Listed, OrderlyTable, Orderly, Meets, Does}
 
 -- ---- the table with one part anew
+
+abbrev pub table-chosen : ℕ → Table → Table
+table-chosen x t = record { clock = t .clock; off = t .off; chosen = x; threads = t .threads; semaphores = t .semaphores; mutexes = t .mutexes; flags = t .flags; timers = t .timers; lengths = t .lengths; waits = t .waits }
 
 abbrev pub table-threads : List Thread → Table → Table
 table-threads x t = record { clock = t .clock; off = t .off; chosen = t .chosen; threads = x; semaphores = t .semaphores; mutexes = t .mutexes; flags = t .flags; timers = t .timers; lengths = t .lengths; waits = t .waits }
@@ -65,13 +68,19 @@ rank-at-most t i j row e =
 -- ---- one store
 
 module _ (t : Table) (w : OrderlyTable t) where
-  pub stored-thread : (i : ℕ) (x : Thread) → Meets t (alter-thread i (λ _. x)) (table-threads (set (t .threads) i x) t)
+  pub stored-chosen : (c : ℕ) → Meets t (with-chosen c) (table-chosen c t)
   unfolding view
-  stored-thread i x =
+  stored-chosen c = record { order = w; lengths = refl; view = λ rows. refl }
+
+  -- the record that stands there, changed; and any other in its place
+  pub changed-thread : (i : ℕ) (g : Thread → Thread)
+      → Meets t (alter-thread i g) (table-threads (set (t .threads) i (g (thread-at (t .threads) i))) t)
+  unfolding view
+  changed-thread i g =
       record {
         order =
             record {
-              threads = length-set (t .threads) i x ∙ w .threads;
+              threads = length-set (t .threads) i (g (thread-at (t .threads) i)) ∙ w .threads;
               semaphores = w .semaphores;
               mutexes = w .mutexes;
               flags = w .flags;
@@ -80,8 +89,11 @@ module _ (t : Table) (w : OrderlyTable t) where
               lists = w .lists;
             };
         lengths = refl;
-        view = λ rows. ap (λ (l : List Thread). with-threads l (view t rows)) (alter-set (λ (y : Thread). x) absent-thread (t .threads) i);
+        view = λ rows. ap (λ (l : List Thread). with-threads l (view t rows)) (alter-set g absent-thread (t .threads) i);
       }
+
+  pub stored-thread : (i : ℕ) (x : Thread) → Meets t (alter-thread i (λ _. x)) (table-threads (set (t .threads) i x) t)
+  stored-thread i x = changed-thread i (λ _. x)
 
   pub stored-semaphore : (o : ℕ) (x : Semaphore) → Meets t (alter-semaphore o (λ _. x)) (table-semaphores (set (t .semaphores) o x) t)
   unfolding view

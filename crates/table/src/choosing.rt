@@ -3,10 +3,8 @@ ghost use mathlib.Core.Path.{_≡_};
 ghost use Rattle.sequences.specs.Lists.{head-or, last-nonempty, take-each};
 ghost use Rattle.rows.specs.Row.{Rows};
 ghost use Rattle.model.specs.State.{nobody};
-ghost use Rattle.model.specs.Parts.{with-chosen, alter-thread, refilled};
 ghost use Rattle.model.specs.Words.{choose};
-ghost use Rattle.table.specs.Orderly.{Orderly, OrderlyTable, Meets, Does};
-use crate::threads;
+ghost use Rattle.table.specs.Orderly.{Orderly, Does};
 use model::tables::NOBODY;
 use model::tables::Table;
 
@@ -27,37 +25,22 @@ pub fn choice(lengths: [u8; 8], rows: [[u8; 16]; 8]) -> u8
     NOBODY
 }
 
-fn with_chosen(t: Table, c: u8) -> Table
-    requires { ⌜ OrderlyTable t ⌝ }
-    ensures { λ r. ⌜ Meets t (with-chosen c) r ⌝ }
-{
-    let mut u = t;
-    u.chosen = c;
-    u
-}
-
-// Nobody's quantum is renewed where nobody is chosen.
-fn choose_anew(t: Table, c: u8) -> Table
-    requires { ⌜ OrderlyTable t ⌝ }
-    ensures { λ r. ⌜ Meets t (λ s. with-chosen c (alter-thread c refilled s)) r ⌝ }
-{
-    if c < 16 {
-        let u = threads::refilled(t, c);
-        with_chosen(u, c)
-    } else {
-        with_chosen(t, c)
-    }
-}
-
+// A thread that comes to be chosen has all of its quantum again; where nobody is chosen, nobody has.
 pub fn choose(t: Table, rows: [[u8; 16]; 8]) -> Table
     requires { ⌜ Orderly t rows ⌝ }
     ensures { λ r. ⌜ Does t rows choose r rows ⌝ }
 {
     let lengths = t.lengths;
     let c = choice(lengths, rows);
-    if (t.off == 0) & (c != t.chosen) {
-        choose_anew(t, c)
-    } else {
-        t
+    let mut u = t;
+    if (u.off == 0) & (c != u.chosen) {
+        if c < 16 {
+            let k = c as usize;
+            let mut x = u.threads[k];
+            x.left = x.quantum;
+            u.threads[k] = x;
+        }
+        u.chosen = c;
     }
+    u
 }

@@ -28,7 +28,7 @@ pub fn leave_list(t: Table, j: usize, i: u8) -> Table
 }
 
 // Off its ready list.
-pub fn leave_ready(t: Table, rows: &mut [[u8; 16]; 8], i: u8) -> Table
+fn leave_ready(t: Table, rows: &mut [[u8; 16]; 8], i: u8) -> Table
     requires { ⌜ Given t (now rows) i ⌝ }
     requires { ⌜ is-ready i (view t (now rows)) ≡ true ⌝ }
     ensures { λ r. ⌜ Does t (now (rows .entry)) (leave i) r (now (rows .exit)) ⌝ }

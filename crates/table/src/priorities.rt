@@ -20,9 +20,23 @@ fn take_ready(t: Table, rows: &mut [[u8; 16]; 8], i: u8, p: u8) -> Table
     requires { ⌜ (p < 8) × (is-ready i (view t (now rows)) ≡ true) ⌝ }
     ensures { λ r. ⌜ Does t (now (rows .entry)) (λ s. re-enter i (alter-thread i (with-current p) s)) r (now (rows .exit)) ⌝ }
 {
-    let u = leaving::leave_ready(t, &mut *rows, i);
-    let v = threads::with_current(u, i, p);
-    entering::enter_ready(v, &mut *rows, i)
+    let k = i as usize;
+    let mut x = t.threads[k];
+    let old = x.current as usize;
+    let new = p as usize;
+    let mut lengths = t.lengths;
+    let all = *rows;
+    let at = rows::eight::find(all, lengths, old, i);
+    let shrunk = rows::eight::remove(all, lengths, old, at);
+    lengths[old] = lengths[old] - 1;
+    let grown = rows::eight::push(shrunk, lengths, new, i);
+    *rows = grown;
+    lengths[new] = lengths[new] + 1;
+    x.current = p;
+    let mut u = t;
+    u.threads[k] = x;
+    u.lengths = lengths;
+    u
 }
 
 fn take_elsewhere(t: Table, rows: &mut [[u8; 16]; 8], i: u8, p: u8) -> Table

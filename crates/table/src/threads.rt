@@ -1,7 +1,7 @@
 // A thread's record read, and written with all else as it was.
 ghost use mathlib.Core.Path.{_≡_};
 ghost use Prim.Native.Nat.{_<_};
-ghost use Rattle.model.specs.Parts.{alter-thread, with-base, with-current, with-quantum, with-left, with-wait, with-result, with-delivered, refilled};
+ghost use Rattle.model.specs.Parts.{alter-thread, with-base, with-current, with-quantum, with-left, with-wait, with-result, with-delivered};
 ghost use Rattle.model.specs.Layout.{thread-at};
 ghost use Rattle.table.specs.Orderly.{OrderlyTable, Meets};
 use model::tables::Table;
@@ -99,16 +99,5 @@ pub fn with_delivered(t: Table, i: u8, word: u16) -> Table
 {
     let mut x = thread(t, i);
     x.delivered = word;
-    with_thread(t, i, x)
-}
-
-// Its quantum left is its quantum again.
-pub fn refilled(t: Table, i: u8) -> Table
-    requires { ⌜ OrderlyTable t ⌝ }
-    requires { ⌜ i < 16 ⌝ }
-    ensures { λ r. ⌜ Meets t (alter-thread i refilled) r ⌝ }
-{
-    let mut x = thread(t, i);
-    x.left = x.quantum;
     with_thread(t, i, x)
 }

@@ -4,7 +4,10 @@ ghost use Rattle.model.specs.Words.{become-ready, suspend, start-to-wait, start
 ghost use Rattle.table.specs.Orderly.{Given, Does};
 use crate::entering;
 use crate::leaving;
+use crate::lists;
+use crate::standing;
 use crate::threads;
+use model::lists::LIST_COUNT;
 use model::lists::SLEEP_LIST;
 use model::tables::Table;
 
@@ -38,7 +41,26 @@ pub fn start_to_wait(
     requires { ⌜ j < 18 ⌝ }
     ensures { λ r. ⌜ Does t (now (rows .entry)) (start-to-wait j i limit mask mode) r (now (rows .exit)) ⌝ }
 {
-    let u = suspend(t, &mut *rows, i, limit, mask, mode);
+    let k = i as usize;
+    let mut u = t;
+    let mut x = u.threads[k];
+    x.limit = limit;
+    x.result = 0;
+    x.mask = mask;
+    x.mode = mode;
+    u.threads[k] = x;
+    let p = x.current as usize;
+    let mut lengths = u.lengths;
+    let all = *rows;
+    let at = rows::eight::find(all, lengths, p, i);
+    if at == (lengths[p] as usize) {
+        let off = leaving::leave(u, &mut *rows, i);
+        return entering::enter_by_priority(off, j, i);
+    }
+    let shrunk = rows::eight::remove(all, lengths, p, at);
+    *rows = shrunk;
+    lengths[p] = lengths[p] - 1;
+    u.lengths = lengths;
     entering::enter_by_priority(u, j, i)
 }
 
@@ -50,10 +72,32 @@ pub fn start_to_sleep(t: Table, rows: &mut [[u8; 16]; 8], i: u8, span: u32) -> T
     entering::enter_tail(u, SLEEP_LIST, i)
 }
 
+// Who waits or sleeps is taken off that list and put behind the others of its priority by one function, so that the table isn't handed on.
 pub fn wake(t: Table, rows: &mut [[u8; 16]; 8], i: u8, result: u8) -> Table
     requires { ⌜ Given t (now rows) i ⌝ }
     ensures { λ r. ⌜ Does t (now (rows .entry)) (wake i result) r (now (rows .exit)) ⌝ }
 {
-    let u = threads::with_wait(t, i, 0, result, 0, 0);
-    become_ready(u, &mut *rows, i)
+    let k = i as usize;
+    let mut u = t;
+    let mut x = u.threads[k];
+    x.limit = 0;
+    x.result = result;
+    x.mask = 0;
+    x.mode = 0;
+    u.threads[k] = x;
+    let j = standing::list_of(u, i);
+    if j == LIST_COUNT {
+        return become_ready(u, &mut *rows, i);
+    }
+    let old = u.waits[j];
+    let shrunk = lists::without(old, i);
+    u.waits[j] = shrunk;
+    let p = x.current as usize;
+    let mut lengths = u.lengths;
+    let all = *rows;
+    let grown = rows::eight::push(all, lengths, p, i);
+    *rows = grown;
+    lengths[p] = lengths[p] + 1;
+    u.lengths = lengths;
+    u
 }

@@ -14,12 +14,15 @@ use Rattle.model.specs.declared.tables.Timer.{Timer}
 use Rattle.model.specs.declared.tables.Table.{Table}
 use Rattle.model.specs.State.{State, unused-timer}
 use Rattle.model.specs.Parts.{timer, alter-timer, with-time}
+use Rattle.model.specs.Effects.{act}
 use Rattle.model.specs.Tick.{expired}
 use Rattle.model.specs.Layout as layout
 use Rattle.model.specs.Layout.{view}
+use Rattle.placed.proofs.Standing.{unmoved-placed}
 use Rattle.table.specs.Orderly.{Whole, Does}
-use Rattle.table.proofs.Views.{table-timers, stored-timer, does, same-word}
+use Rattle.table.proofs.Views.{table-timers, stored-timer, does, and-then, same-word}
 use Rattle.table.proofs.Rewriting.{rewritten-timer}
+use Rattle.table.proofs.Rooms.{whole-then}
 use Rattle.theorems.specs.Skip.{time-less}
 use Rattle.theorems.specs.Leap.{expire, timer-leap}
 use Rattle.theorems.proofs.Turns.{act-timers}
@@ -60,27 +63,61 @@ turned-aimed gap {t} a = by-test (eqb (t .left) gap)
     by-test true = record { posts = a .posts; sets = a .sets }
     by-test false = record { posts = a .posts; sets = a .sets }
 
--- ---- in code, by its two ways
+nothing : {kind : ℕ} (object mask : ℕ) (s : State) → kind ≡ 0 → s ≡ act kind object mask s
+unfolding act
+nothing object mask s e = rw e
+
+-- ---- in code, by its ways
 
 module _ (gap o : ℕ) (t : Table) (rows : layout.Rows) where
   abbrev there : Timer
   there = getD (t .timers) o unused-timer
 
-  pub timer-ends : there .left ≡ gap → {r : Table} {after : layout.Rows} → Does t rows (expire o) r after
-      → Turn (timer-leap gap o) timers unused-timer o t rows r after (getD (r .timers) o unused-timer)
-  unfolding timer-leap view
-  timer-ends out d = record { does = same-word (timer-leap gap o) d (rw (eq-eqb (there .left) gap out)); own = refl }
+  -- the table with x as timer o
+  abbrev stored : Timer → Table
+  stored x = table-timers (set (t .timers) o x) t
+
+  own-stored : Whole t rows → o < 8 → (x : Timer) → getD (set (t .timers) o x) o unused-timer ≡ x
+  own-stored w h x = getD-set-same (t .timers) o x unused-timer (omega (arith, w .order .table .timers))
+
+  module _ (w : Whole t rows) {y : Timer} (e : y ≡ expired there) where
+    written : Does t rows (alter-timer o expired) (stored y) rows
+    written = does rows (w .order) (rewritten-timer t (stored y) o y expired e (stored-timer t (w .order .table) o y))
+
+    -- an expiry moves nobody
+    pub written-whole : Whole (stored y) rows
+    written-whole = whole-then (λ x. unmoved-placed refl refl refl) written w
+
+    -- the record first, then the action, which leaves the timers alone
+    pub timer-ends : there .left ≡ gap → o < 8 → {r : Table} {after : layout.Rows}
+        → Does (stored y) rows (act (there .kind) (there .object) (there .mask)) r after
+        → Turn (timer-leap gap o) timers unused-timer o t rows r after y
+    unfolding timer-leap view
+    timer-ends out h d =
+        record {
+          does = same-word (timer-leap gap o) (and-then written d) (rw (eq-eqb (there .left) gap out));
+          own =
+              sym
+              (ap (λ (s : State). getD (s .timers) o unused-timer) (d .view)
+              ∙ ap (λ (l : List Timer). getD l o unused-timer) (act-timers (there .kind) (there .object) (there .mask) (view (stored y) rows))
+              ∙ own-stored w h y);
+        }
+
+    -- a timer without an action does no more
+    pub timer-rests : there .left ≡ gap → o < 8 → there .kind ≡ 0 → Turn (timer-leap gap o) timers unused-timer o t rows (stored y) rows y
+    timer-rests out h none =
+        timer-ends out h (record { order = written .order; view = nothing (there .object) (there .mask) (view (stored y) rows) none })
 
   pub timer-runs : (there .left ≡ gap → ⊥) → Whole t rows → o < 8 → {m : ℕ} → m ≡ there .left - gap → let x = with-time m (there .count) there in
-      Turn (timer-leap gap o) timers unused-timer o t rows (table-timers (set (t .timers) o x) t) rows x
+      Turn (timer-leap gap o) timers unused-timer o t rows (stored x) rows x
   unfolding timer-leap view
   timer-runs more w h {m} e =
       let x = with-time m (there .count) there in
-      let changed = rewritten-timer t (table-timers (set (t .timers) o x) t) o x (time-less gap) (ap (λ (n : ℕ). with-time n (there .count) there) e)
+      let changed = rewritten-timer t (stored x) o x (time-less gap) (ap (λ (n : ℕ). with-time n (there .count) there) e)
       (stored-timer t (w .order .table) o x) in
       record {
         does = same-word (timer-leap gap o) (does rows (w .order) changed) (rw (ne-eqb (there .left) gap more));
-        own = sym (getD-set-same (t .timers) o x unused-timer (omega (arith, w .order .table .timers)));
+        own = sym (own-stored w h x);
       }
 
   pub armed-next : Armed t → {r : Table} {after : layout.Rows} → Does t rows (timer-leap gap o) r after → Armed r

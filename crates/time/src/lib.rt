@@ -22,6 +22,7 @@ use table::records;
 mod counters;
 mod limits;
 mod quantum;
+mod rounds;
 mod skips;
 mod timers;
 

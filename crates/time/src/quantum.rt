@@ -4,6 +4,7 @@ ghost use Rattle.model.specs.Layout.{Rows};
 ghost use Rattle.table.specs.Orderly.{Whole, Does};
 ghost use Rattle.theorems.specs.Leap.{spend, quantum-leap};
 use crate::counters;
+use crate::rounds;
 use kernel::next;
 use model::tables::Table;
 use table::threads;
@@ -23,17 +24,34 @@ pub fn spend(t: Table, m: u32) -> Table
     }
 }
 
-// By all that is left of it: behind all others of the priority, with the whole quantum again.
+// By all that is left of it: behind all others of the priority, with the whole quantum again. Who isn't ready becomes so.
 pub fn quantum_leap(t: Table, rows: &mut [[u8; 16]; 8], gap: u32) -> Table
     requires { ⌜ Whole t (now rows) ⌝ }
     requires { ⌜ 0 < gap ⌝ }
     ensures { λ r. ⌜ Does t (now (rows .entry)) (quantum-leap gap) r (now (rows .exit)) ⌝ }
 {
     let left = next::quantum_left(t) as u32;
-    if left == gap {
-        let u = threads::refilled(t, t.chosen);
-        waking::become_ready(u, &mut *rows, t.chosen)
-    } else {
-        spend(t, gap)
+    let mut u = t;
+    if 0 < left {
+        let c = u.chosen;
+        let i = c as usize;
+        let mut x = u.threads[i];
+        if left == gap {
+            x.left = x.quantum;
+            u.threads[i] = x;
+            let lengths = u.lengths;
+            let p = x.current as usize;
+            let old = *rows;
+            let k = rows::eight::find(old, lengths, p, c);
+            if k < (lengths[p] as usize) {
+                rounds::turn_over(&mut *rows, lengths, p, k, c);
+            } else {
+                u = waking::become_ready(u, &mut *rows, c);
+            }
+        } else {
+            x.left = counters::less(left, gap) as u16;
+            u.threads[i] = x;
+        }
     }
+    u
 }

@@ -8,7 +8,7 @@ ghost use Rattle.model.specs.declared.tables.Timer.{Timer};
 ghost use Rattle.model.specs.Effects.{act};
 ghost use Rattle.model.specs.Tick.{expired};
 ghost use Rattle.table.specs.Orderly.{Whole, Does};
-ghost use Rattle.theorems.specs.Leap.{expire, timer-leap};
+ghost use Rattle.theorems.specs.Leap.{timer-leap};
 ghost use Rattle.time.specs.Armed.{Aimed, Armed};
 use crate::counters;
 use kernel::flags;
@@ -18,7 +18,6 @@ use model::actions::NOTHING;
 use model::actions::POST;
 use model::tables::Table;
 use model::tables::Timer;
-use table::records;
 
 // One expiry more; a repeating timer starts anew.
 fn expired(x: Timer) -> Timer
@@ -34,32 +33,19 @@ fn expired(x: Timer) -> Timer
     y
 }
 
-// What a timer does when it runs out: calls 11 and 17 go by the same words.
+// What a timer that has an action does when it runs out: calls 11 and 17 go by the same words.
 fn act(t: Table, rows: &mut [[u8; 16]; 8], x: Timer) -> Table
     requires { ⌜ Whole t (now rows) ⌝ }
-    requires { ⌜ Aimed x ⌝ }
+    requires { ⌜ Aimed x × (0 < x .kind) ⌝ }
     ensures { λ r. ⌜ Does t (now (rows .entry)) (act (x .kind) (x .object) (x .mask)) r (now (rows .exit)) ⌝ }
 {
     let kind = x.kind as u32;
     let o = x.object as usize;
-    if kind == NOTHING {
-        t
-    } else if kind == POST {
+    if kind == POST {
         semaphores::post_semaphore(t, &mut *rows, o)
     } else {
         flags::set_flags(t, &mut *rows, o, x.mask)
     }
-}
-
-fn expire(t: Table, rows: &mut [[u8; 16]; 8], o: usize) -> Table
-    requires { ⌜ Whole t (now rows) ⌝ }
-    requires { ⌜ (o < 8) × Armed t ⌝ }
-    ensures { λ r. ⌜ Does t (now (rows .entry)) (expire o) r (now (rows .exit)) ⌝ }
-{
-    let x = t.timers[o];
-    let y = expired(x);
-    let u = records::with_timer(t, o, y);
-    act(u, &mut *rows, x)
 }
 
 // All of them, gap ticks on; what runs out there acts. Beside it the least that any of them has left then, worked out on the way.
@@ -75,8 +61,12 @@ pub fn leap_timers(t: Table, rows: &mut [[u8; 16]; 8], gap: u32, soonest: &mut u
     while o < 8 {
         let mut x = u.timers[o];
         if x.left == gap {
-            u = expire(u, &mut *rows, o);
-            x = u.timers[o];
+            let y = expired(x);
+            u.timers[o] = y;
+            if (x.kind as u32) != NOTHING {
+                u = act(u, &mut *rows, x);
+            }
+            x = y;
         } else {
             x.left = counters::less(x.left, gap);
             u.timers[o] = x;

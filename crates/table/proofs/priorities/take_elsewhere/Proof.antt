@@ -1,5 +1,5 @@
 -- The number of the list that holds the thread tells whether it waits. Off that list it takes the new priority and is ranked anew; else it only takes it.
-use mathlib.Core.Path.{_≡_, sym, _∙_}
+use mathlib.Core.Path.{_≡_, _∙_}
 use mathlib.Core.Bool.{true, _&&_}
 use Prim.Native.Nat.{ℕ, _<_}
 use borrow.Author.Tests.{ltb-true}
@@ -10,9 +10,10 @@ use Rattle.model.specs.State.{State}
 use Rattle.model.specs.Parts.{alter-thread, with-current}
 use Rattle.model.specs.Words.{list-of, leave, re-enter}
 use Rattle.model.specs.Layout.{view}
-use Rattle.placed.proofs.Leaving.{waiting-list, leave-from-list}
+use Rattle.placed.proofs.Leaving.{waiting-list}
 use Rattle.table.specs.Orderly.{Does}
-use Rattle.table.proofs.Retaking.{retaken-off, re-enter-waiting, re-enter-other, not-ready, once-on}
+use Rattle.table.proofs.Retaking.{retaken-off, re-enter-waiting, re-enter-other}
+use Rattle.table.proofs.OffList.{once-on, left-list}
 use Rattle.table.proofs.Rooms.{ranked, list-room}
 use Rattle.table.proofs.Views.{does, and-then, same-word}
 use borrow.Author.Needs.{needs}
@@ -31,9 +32,7 @@ off-list : (c : tie.After-leave-list) → let s = c .before .before .before in
     Does (s .args .t) (now (s .args .rows)) (leave (s .args .i)) (c .leave-list .result) (now (s .args .rows))
 off-list c =
     let s = c .before .before .before in
-    let i = s .args .i in
-    same-word (leave i) (does (now (s .args .rows)) (s .pre .0 .whole .order) (c .leave-list .ensures))
-    (sym (leave-from-list (s .pre .0 .whole .placed) i _ (at-list (c .before .before)) (listed (c .before .if1 .taken)) (not-ready (s .pre .0) (s .pre .1 .1))))
+    left-list (s .pre .0) (c .before .before .list-of .ensures) (listed (c .before .if1 .taken)) (c .leave-list .ensures)
 
 leave-list-requires : tie.Need-leave-list-requires
 leave-list-requires c κs =

@@ -1,9 +1,6 @@
 -- Who has left is off all lists, so the ready list of its current priority has room.
-use denote.Ref.{now}
 use Rattle.model.specs.Words.{become-ready}
-use Rattle.model.specs.Layout.{view}
-use Rattle.placed.proofs.Standing.{leave-gone, leave-placed}
-use Rattle.table.proofs.Rooms.{off-after, priority-in-range, row-room}
+use Rattle.table.proofs.Rooms.{left-off, priority-in-range, row-room}
 use Rattle.table.proofs.Views.{and-then}
 use borrow.Author.Needs.{needs}
 use Rattle.table.proofs.waking.become_ready.Statement.{statement}
@@ -13,9 +10,7 @@ enter-ready-requires : tie.Need-enter-ready-requires
 enter-ready-requires c κs =
     let s = c .before .before .before in
     let d = c .before .leave .ensures in
-    let i = s .args .i in
-    let v = view (s .args .t) (now (s .args .rows)) in
-    let w = off-after d (s .pre .thread) (leave-placed i v (s .pre .whole .placed)) (leave-gone i v) in
+    let w = left-off (s .pre) d in
     (d .order, (s .pre .thread, priority-in-range w, row-room w _ (priority-in-range w)))
 
 returns : tie.Need-returns

@@ -1,6 +1,6 @@
 -- The model's action by its kind.
 use mathlib.Core.Path.{_≡_, refl}
-use Prim.Native.Nat.{ℕ, zero, suc}
+use Prim.Native.Nat.{ℕ, zero, suc, _<_}
 use native.Mathlib.Omega.{arith}
 use denote.Ref.{now}
 use Rattle.model.specs.State.{State}
@@ -11,52 +11,41 @@ use borrow.Author.Needs.{needs}
 use Rattle.time.proofs.timers.act.Statement.{statement}
 use Rattle.time.proofs.timers.act.Tie as tie
 
-module _ (kind object mask : ℕ) (s : State) where
-  nothing : kind ≡ 0 → s ≡ act kind object mask s
-  unfolding act
-  nothing e = rw e
-
-  posts : kind ≡ 1 → post-semaphore object s ≡ act kind object mask s
-  unfolding act
-  posts e = rw e
-
-sets : (kind object mask : ℕ) (s : State) → (kind ≡ 0 → ⊥) → (kind ≡ 1 → ⊥) → set-flags object mask s ≡ act kind object mask s
+posts : (kind object mask : ℕ) (s : State) → kind ≡ 1 → post-semaphore object s ≡ act kind object mask s
 unfolding act
-sets zero object mask s a b = absurd (a refl)
+posts kind object mask s e = rw e
+
+sets : (kind object mask : ℕ) (s : State) → 0 < kind → (kind ≡ 1 → ⊥) → set-flags object mask s ≡ act kind object mask s
+unfolding act
+sets zero object mask s a b = absurd (omega arith)
 sets (suc zero) object mask s a b = absurd (b refl)
 sets (suc (suc kind)) object mask s a b = refl
 
 post-semaphore-requires : tie.Need-post-semaphore-requires
 post-semaphore-requires c κs =
-    let s = c .before .before .before .before .before in
-    (s .pre .0, s .pre .1 .posts (c .before .if2 .taken))
+    let s = c .before .before .before .before in
+    (s .pre .0, s .pre .1 .0 .posts (c .before .if1 .taken))
 
 set-flags-requires : tie.Need-set-flags-requires
 set-flags-requires c κs =
-    let s = c .before .before .before .before .before in
-    (s .pre .0, s .pre .1 .sets (omega (arith, c .before .if2 .left, c .before .before .if1 .left)))
+    let s = c .before .before .before .before in
+    (s .pre .0, s .pre .1 .0 .sets (omega (arith, c .before .if1 .left, s .pre .1 .1)))
 
 returns : tie.Need-returns
 returns c =
-    let s = c .before .before .before in
+    let one = c .before .before in
+    let s = one .before .before .before in
     let x = s .args .x in
-    record { order = s .pre .0 .order; view = nothing (x .kind) (x .object) (x .mask) (view (s .args .t) (now (s .args .rows))) (c .if1 .taken) }
+    same-word (act (x .kind) (x .object) (x .mask)) (c .post-semaphore .ensures)
+    (posts (x .kind) (x .object) (x .mask) (view (s .args .t) (now (s .args .rows))) (one .if1 .taken))
 
 returns-2 : tie.Need-returns-2
 returns-2 c =
-    let two = c .before .before in
-    let s = two .before .before .before .before in
-    let x = s .args .x in
-    same-word (act (x .kind) (x .object) (x .mask)) (c .post-semaphore .ensures)
-    (posts (x .kind) (x .object) (x .mask) (view (s .args .t) (now (s .args .rows))) (two .if2 .taken))
-
-returns-3 : tie.Need-returns-3
-returns-3 c =
-    let two = c .before .before in
-    let s = two .before .before .before .before in
+    let one = c .before .before in
+    let s = one .before .before .before in
     let x = s .args .x in
     same-word (act (x .kind) (x .object) (x .mask)) (c .set-flags .ensures)
-    (sets (x .kind) (x .object) (x .mask) (view (s .args .t) (now (s .args .rows))) (two .before .if1 .left) (two .if2 .left))
+    (sets (x .kind) (x .object) (x .mask) (view (s .args .t) (now (s .args .rows))) (s .pre .1 .1) (one .if1 .left))
 
 pub act-spec : {M : Type 1} → statement M
 act-spec =
@@ -67,5 +56,4 @@ act-spec =
     post-semaphore-requires
     set-flags-requires
     returns
-    returns-2
-    returns-3)
+    returns-2)

@@ -1,4 +1,4 @@
--- Timer by timer: each turn, by either way, is the model's.
+-- Timer by timer: each turn, by any of its ways, is the model's.
 use mathlib.Core.Logic.{inl, inr}
 use Prim.Native.Nat.{_-_, _≤_}
 use native.Mathlib.Omega.{arith}
@@ -9,7 +9,7 @@ use Rattle.theorems.specs.Leap.{timer-leap}
 use Rattle.theorems.proofs.LeapPlaced.{timer-leap-placed}
 use Rattle.time.specs.Armed.{Armed}
 use Rattle.time.proofs.Walking.{Turn, Walking, walking-start, walking-next}
-use Rattle.time.proofs.TimerWalk.{timers, left, timers-behind, timer-ends, timer-runs, armed-next}
+use Rattle.time.proofs.TimerWalk.{timers, left, timers-behind, written-whole, timer-ends, timer-rests, timer-runs, armed-next}
 use borrow.Author.Needs.{needs}
 use Rattle.time.proofs.timers.leap_timers.Statement.{statement}
 use Rattle.time.proofs.timers.leap_timers.Tie as tie
@@ -23,10 +23,14 @@ abbrev μ-loop : tie.MeasureT-loop
 loop-holds : tie.Need-loop-holds Inv-loop μ-loop
 loop-holds c = (omega arith, c .pre .1, walking-start (timer-leap (c .args .gap)) timers left 0 (c .pre .0))
 
-expire-requires : tie.Need-expire-requires Inv-loop μ-loop
-expire-requires c κs =
-    let l = c .before .before .before .before .before .loop in
-    (l .inv .2 .whole, (c .before .before .before .before .loop-test .taken, l .inv .1))
+act-requires : tie.Need-act-requires Inv-loop μ-loop
+act-requires c κs =
+    let ended = c .before .before .before in
+    let l = ended .before .before .before .before .before .loop in
+    let gap = ended .before .before .before .before .before .before .args .gap in (
+      written-whole gap (l .o) (l .u) (l .rows) (l .inv .2 .whole) (ended .expired .ensures),
+      (l .inv .1 (l .o), omega (arith, c .before .if2 .taken)),
+    )
 
 loop-again : tie.Need-loop-again Inv-loop μ-loop
 unfolding view
@@ -38,8 +42,15 @@ loop-again c =
     let after = c .before .if1 in
     let turn : Turn (timer-leap gap (l .o)) timers unused-timer (l .o) (l .u) (l .rows) (after .u) (after .rows) (after .x) =
     elim (after .came) [
-      | inl out ↦ rw (out .4, out .5, out .6) (timer-ends gap (l .o) (l .u) (l .rows) (out .0 .taken) (out .2 .ensures))
-      | inr less ↦ rw (less .2, less .3, less .4) (timer-runs gap (l .o) (l .u) (l .rows) (less .0 .left) (l .inv .2 .whole) below (less .1 .ensures))
+      | inl acts ↦
+          rw (acts .6, acts .7, acts .8)
+          (timer-ends gap (l .o) (l .u) (l .rows) (l .inv .2 .whole) (acts .1 .ensures) (acts .0 .taken) below (acts .5 .ensures))
+      | inr (inl rests) ↦
+          rw (rests .4, rests .5, rests .6)
+          (timer-rests gap (l .o) (l .u) (l .rows) (l .inv .2 .whole) (rests .1 .ensures) (rests .0 .taken) below (rests .3 .left))
+      | inr (inr less) ↦
+          rw (less .2, less .3, less .4)
+          (timer-runs gap (l .o) (l .u) (l .rows) (less .0 .left) (l .inv .2 .whole) below (less .1 .ensures))
     ]
     in (
       omega arith,
@@ -66,9 +77,11 @@ leap-timers-spec =
     loop-holds
     (λ c. search needs)
     (λ c. search needs)
-    expire-requires
+    (λ c κs. search needs)
     (λ c. search needs)
     (λ c. search needs)
+    (λ c. search needs)
+    act-requires
     (λ c κs. search needs)
     (λ c. search needs)
     (λ c. search needs)
