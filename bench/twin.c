@@ -263,7 +263,7 @@ INLINE void to_tail(struct twin_list *list, unsigned id) {
     list->ids[list->length++] = (uint8_t)id;
 }
 
-/* Behind all of equal or higher current priority. */
+/* In front of the first whose current priority is lower, searched from the end. */
 static void enter(struct twin_table *t, struct twin_list *list, unsigned id) {
     unsigned p = t->threads[id].current, at = list->length++;
     for (; at > 0 && t->threads[list->ids[at - 1]].current < p; at--) list->ids[at] = list->ids[at - 1];
