@@ -15,7 +15,7 @@ use model::requests::Request;
 use model::tables::Flags;
 use model::tables::Table;
 use table::conditions;
-use table::records;
+use table::storing;
 use table::threads;
 use table::waking;
 
@@ -28,7 +28,7 @@ fn create_flags(t: Table, q: Request) -> Table
         created: 1,
         word: q.a as u16,
     };
-    records::with_flags(t, q.id as usize, x)
+    storing::with_flags(t, q.id as usize, x)
 }
 
 // Call 16: where the condition holds the whole word is delivered, else the running thread waits.
@@ -74,7 +74,7 @@ fn change_word(t: Table, rows: &mut [[u8; 16]; 8], o: usize, word: u16) -> Table
     let n = l.length as usize;
     let mut x = t.flags[o];
     x.word = word;
-    let mut u = records::with_flags(t, o, x);
+    let mut u = storing::with_flags(t, o, x);
     let mut k: usize = 0;
     while k < n {
         u = wake_met(u, &mut *rows, ids[k], word);

@@ -16,7 +16,7 @@ use model::tables::Mutex;
 use model::tables::Table;
 use table::owners;
 use table::priorities;
-use table::records;
+use table::storing;
 use table::threads;
 use table::waking;
 
@@ -30,7 +30,7 @@ fn create_mutex(t: Table, q: Request) -> Table
         owner: 0,
         depth: 0,
     };
-    records::with_mutex(t, q.id as usize, x)
+    storing::with_mutex(t, q.id as usize, x)
 }
 
 // The current priority of `from`, where it exceeds that of thread i, becomes that of thread i.
@@ -62,7 +62,7 @@ fn claim(t: Table, rows: &mut [[u8; 16]; 8], q: Request) -> Table
     } else {
         x.owner = c;
         x.depth = x.depth + 1;
-        let u = records::with_mutex(t, o, x);
+        let u = storing::with_mutex(t, o, x);
         threads::with_result(u, c, 1)
     }
 }
@@ -88,12 +88,12 @@ fn hand_over(t: Table, rows: &mut [[u8; 16]; 8], o: usize) -> Table
     if l.length == 0 {
         x.owner = 0;
         x.depth = 0;
-        records::with_mutex(t, o, x)
+        storing::with_mutex(t, o, x)
     } else {
         let ids = l.ids;
         x.owner = ids[0];
         x.depth = 1;
-        let u = records::with_mutex(t, o, x);
+        let u = storing::with_mutex(t, o, x);
         waking::wake(u, &mut *rows, x.owner, 1)
     }
 }
@@ -110,7 +110,7 @@ fn release(t: Table, rows: &mut [[u8; 16]; 8], q: Request) -> Table
         hand_over(u, &mut *rows, o)
     } else {
         x.depth = x.depth - 1;
-        records::with_mutex(t, o, x)
+        storing::with_mutex(t, o, x)
     }
 }
 

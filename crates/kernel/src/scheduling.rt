@@ -6,11 +6,11 @@ ghost use Rattle.table.specs.Orderly.{Meets};
 ghost use Rattle.kernel.specs.Allowed.{Allowed};
 use model::requests::Request;
 use model::tables::Table;
-use table::records;
+use table::storing;
 
 pub fn scheduling(t: Table, q: Request) -> Table
     requires { ⌜ ((rows : Rows) × Allowed scheduling q t rows) ⌝ }
     ensures { λ r. ⌜ Meets t (scheduling-effect q) r ⌝ }
 {
-    records::with_off(t, (1 - q.a) as u8)
+    storing::with_off(t, (1 - q.a) as u8)
 }

@@ -13,7 +13,7 @@ use model::lists::SEMAPHORE_LIST;
 use model::requests::Request;
 use model::tables::Semaphore;
 use model::tables::Table;
-use table::records;
+use table::storing;
 use table::threads;
 use table::waking;
 
@@ -27,7 +27,7 @@ fn create_semaphore(t: Table, q: Request) -> Table
         count: q.a as u16,
         maximum: q.b as u16,
     };
-    records::with_semaphore(t, q.id as usize, x)
+    storing::with_semaphore(t, q.id as usize, x)
 }
 
 // Call 10: a count above 0 is taken, else the running thread waits.
@@ -41,7 +41,7 @@ fn pend(t: Table, rows: &mut [[u8; 16]; 8], q: Request) -> Table
         waking::start_to_wait(t, &mut *rows, SEMAPHORE_LIST + o, t.chosen, q.a, 0, 0)
     } else {
         x.count = x.count - 1;
-        let u = records::with_semaphore(t, o, x);
+        let u = storing::with_semaphore(t, o, x);
         threads::with_result(u, t.chosen, 1)
     }
 }
@@ -55,7 +55,7 @@ fn count_up(t: Table, o: usize) -> Table
     let mut x = t.semaphores[o];
     if x.count < x.maximum {
         x.count = x.count + 1;
-        records::with_semaphore(t, o, x)
+        storing::with_semaphore(t, o, x)
     } else {
         t
     }

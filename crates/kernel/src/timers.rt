@@ -9,7 +9,7 @@ ghost use Rattle.kernel.specs.Effect.{effect};
 use model::calls::START_TIMER;
 use model::requests::Request;
 use model::tables::Table;
-use table::records;
+use table::storing;
 
 // Call 19: everything anew but the count.
 fn start_timer(t: Table, q: Request) -> Table
@@ -24,7 +24,7 @@ fn start_timer(t: Table, q: Request) -> Table
     x.kind = (q.c % 256) as u8;
     x.object = (q.c / 256) as u8;
     x.mask = q.d as u16;
-    records::with_timer(t, o, x)
+    storing::with_timer(t, o, x)
 }
 
 // Call 20.
@@ -35,7 +35,7 @@ fn stop_timer(t: Table, q: Request) -> Table
     let o = q.id as usize;
     let mut x = t.timers[o];
     x.left = 0;
-    records::with_timer(t, o, x)
+    storing::with_timer(t, o, x)
 }
 
 pub fn effect(t: Table, q: Request) -> Table

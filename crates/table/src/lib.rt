@@ -9,7 +9,7 @@ pub mod lists;
 pub mod objects;
 pub mod owners;
 pub mod priorities;
-pub mod records;
 pub mod standing;
+pub mod storing;
 pub mod threads;
 pub mod waking;

@@ -17,7 +17,7 @@ use model::requests::Request;
 use model::tables::Table;
 use refusals::numbers;
 use table::choosing;
-use table::records;
+use table::storing;
 
 mod counters;
 mod limits;
@@ -75,7 +75,7 @@ fn pass(t: Table, rows: &mut [[u8; 16]; 8], n: u32) -> Passed
     }
     let quiet = skips::skip(u, left);
     let clock = std::num::wrapping_add_u32(t.clock, n);
-    let moved = records::with_clock(quiet, clock);
+    let moved = storing::with_clock(quiet, clock);
     Passed {
         table: moved,
         wakeups: woken,

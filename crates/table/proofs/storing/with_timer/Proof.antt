@@ -1,8 +1,8 @@
 -- One record stored.
 use Rattle.table.proofs.Views.{stored-timer}
 use borrow.Author.Needs.{needs}
-use Rattle.table.proofs.records.with_timer.Statement.{statement}
-use Rattle.table.proofs.records.with_timer.Tie as tie
+use Rattle.table.proofs.storing.with_timer.Statement.{statement}
+use Rattle.table.proofs.storing.with_timer.Tie as tie
 
 returns : tie.Need-returns
 returns c = stored-timer (c .args .t) (c .pre .0) (c .args .o) (c .args .x)

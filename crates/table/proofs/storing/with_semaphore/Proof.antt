@@ -1,8 +1,8 @@
 -- One record stored.
 use Rattle.table.proofs.Views.{stored-semaphore}
 use borrow.Author.Needs.{needs}
-use Rattle.table.proofs.records.with_semaphore.Statement.{statement}
-use Rattle.table.proofs.records.with_semaphore.Tie as tie
+use Rattle.table.proofs.storing.with_semaphore.Statement.{statement}
+use Rattle.table.proofs.storing.with_semaphore.Tie as tie
 
 returns : tie.Need-returns
 returns c = stored-semaphore (c .args .t) (c .pre .0) (c .args .o) (c .args .x)

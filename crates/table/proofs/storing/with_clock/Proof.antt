@@ -1,8 +1,8 @@
 -- No list and no array is touched.
 use mathlib.Core.Path.{refl}
 use Rattle.model.specs.Layout.{view}
-use Rattle.table.proofs.records.with_clock.Statement.{statement}
-use Rattle.table.proofs.records.with_clock.Tie as tie
+use Rattle.table.proofs.storing.with_clock.Statement.{statement}
+use Rattle.table.proofs.storing.with_clock.Tie as tie
 
 returns : tie.Need-returns
 unfolding view

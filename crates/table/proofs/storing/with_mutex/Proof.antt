@@ -1,8 +1,8 @@
 -- One record stored.
 use Rattle.table.proofs.Views.{stored-mutex}
 use borrow.Author.Needs.{needs}
-use Rattle.table.proofs.records.with_mutex.Statement.{statement}
-use Rattle.table.proofs.records.with_mutex.Tie as tie
+use Rattle.table.proofs.storing.with_mutex.Statement.{statement}
+use Rattle.table.proofs.storing.with_mutex.Tie as tie
 
 returns : tie.Need-returns
 returns c = stored-mutex (c .args .t) (c .pre .0) (c .args .o) (c .args .x)

@@ -1,8 +1,8 @@
 -- One record stored.
 use Rattle.table.proofs.Views.{stored-flags}
 use borrow.Author.Needs.{needs}
-use Rattle.table.proofs.records.with_flags.Statement.{statement}
-use Rattle.table.proofs.records.with_flags.Tie as tie
+use Rattle.table.proofs.storing.with_flags.Statement.{statement}
+use Rattle.table.proofs.storing.with_flags.Tie as tie
 
 returns : tie.Need-returns
 returns c = stored-flags (c .args .t) (c .pre .0) (c .args .o) (c .args .x)
