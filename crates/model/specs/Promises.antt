@@ -16,7 +16,7 @@ use Rattle.model.specs.Ranges.{_implies_, has-thread, has-semaphore, has
 use Rattle.model.specs.Words.{holds}
 use Rattle.model.specs.Sound.{sound}
 use Rattle.model.specs.Answers.{Given, _when_, number}
-use Rattle.model.specs.Calls.{Call, numbered, answers}
+use Rattle.model.specs.Calls.{Call, call-count, advance-call, numbered, answers}
 use Rattle.model.specs.Tick.{clock-step, quantum-step, quantum-ends, timer-tick, limit-tick, before-limits}
 use Rattle.model.specs.Kernel.{call}
 
@@ -40,7 +40,7 @@ applies n s q = applies-in n (rows s q)
 
 -- what 01 says of several calls at once, told a second time, by their numbers and from the fields: which calls there are
 abbrev pub is-call : Request → Bool
-is-call q = ltb 0 (q .call) && leb (q .call) 22
+is-call q = ltb 0 (q .call) && leb (q .call) call-count
 
 -- which create what is there
 abbrev pub creates-existing : Request → State → Bool
@@ -95,9 +95,9 @@ heads-highest s =
 
 -- ---- 3: advances
 
--- call 22 by n ticks
+-- the call in which n ticks pass
 abbrev pub advancing : ℕ → Request
-advancing n = record { call = 22; id = 0; a = n; b = 0; c = 0; d = 0 }
+advancing n = record { call = advance-call; id = 0; a = n; b = 0; c = 0; d = 0 }
 
 -- n calls, each of which advances by 1: the table after them, and the wake-ups that they report together
 unfoldable pub one-by-one : ℕ → State → State

@@ -15,7 +15,7 @@ use lib.ListN.{getElem?, length}
 use Rattle.sequences.proofs.Positive.{not-positive}
 use Rattle.model.specs.declared.requests.Request.{Request}
 use Rattle.model.specs.State.{State}
-use Rattle.model.specs.Calls.{Call, calls, numbered, answers, nobody-runs, scheduling-off}
+use Rattle.model.specs.Calls.{Call, calls, call-count, numbered, answers, nobody-runs, scheduling-off}
 use Rattle.model.specs.Promises.{rows-of, applies-in, is-call, creates-existing, needs-running, needs-scheduling, is-full, waits-or-sleeps}
 
 -- ---- by number
@@ -38,7 +38,7 @@ look-up P n (c ∷ cs) each past (suc k) =
     let same : suc n + k ≡ n + suc k = omega arith in
     subst (λ (m : ℕ). P m (getElem? cs k)) same (look-up P (suc n) cs (each .1) (λ m h. past m (omega arith)) k)
 
-pub by-number : (P : ℕ → Option Call → Type 0) → EachCall P 1 calls → ((k : ℕ) → (k ≡ 0) ⊎ (22 < k) → P k none) → (n : ℕ) → P n (numbered n)
+pub by-number : (P : ℕ → Option Call → Type 0) → EachCall P 1 calls → ((k : ℕ) → (k ≡ 0) ⊎ (call-count < k) → P k none) → (n : ℕ) → P n (numbered n)
 unfolding numbered calls
 by-number P each other zero = other 0 (inl refl)
 by-number P each other (suc n) =
@@ -60,26 +60,29 @@ each-call said told n (c ∷ cs) same =
     let others : map (λ c. said (some c)) cs ≡ of-numbers told (suc n) cs = cc in
     (first, each-call said told (suc n) cs others)
 
--- a number that is no call's, and so unlike every one that is
-pub record Outside (n : ℕ) : Type 0 where
-  pub uncalled : ltb 0 n && leb n 22 ≡ false
-  pub differs : (m : ℕ) → ltb 0 m && leb m 22 ≡ true → eqb n m ≡ false
-  pub differed : (m : ℕ) → ltb 0 m && leb m 22 ≡ true → eqb m n ≡ false
+abbrev called : ℕ → Bool
+called n = ltb 0 n && leb n call-count
 
-outside : (n : ℕ) → (n ≡ 0) ⊎ (22 < n) → Outside n
+-- a number that is no call's, and so unlike every one that is
+record Outside (n : ℕ) : Type 0 where
+  uncalled : called n ≡ false
+  differs : (m : ℕ) → called m ≡ true → eqb n m ≡ false
+  differed : (m : ℕ) → called m ≡ true → eqb m n ≡ false
+
+outside : (n : ℕ) → (n ≡ 0) ⊎ (call-count < n) → Outside n
 outside n h =
     record {
-      uncalled = uncalled h;
+      uncalled = none-called h;
       differs = λ m range. ne-eqb n m (unlike m range);
       differed = λ m range. ne-eqb m n (λ same. unlike m range (sym same));
     }
   where
-    uncalled : (n ≡ 0) ⊎ (22 < n) → ltb 0 n && leb n 22 ≡ false
-    uncalled (inl z) = rw z
-    uncalled (inr k) = rw (lt-leb n 22 k, and-false (ltb 0 n))
+    none-called : (n ≡ 0) ⊎ (call-count < n) → called n ≡ false
+    none-called (inl z) = rw z
+    none-called (inr k) = rw (lt-leb n call-count k, and-false (ltb 0 n))
 
-    unlike : (m : ℕ) → ltb 0 m && leb m 22 ≡ true → n ≡ m → ⊥
-    unlike m range same = true≢false (sym range ∙ rw same at (uncalled h))
+    unlike : (m : ℕ) → called m ≡ true → n ≡ m → ⊥
+    unlike m range same = true≢false (sym range ∙ rw same at (none-called h))
 
 module _ (q : Request) (s : State) where
   abbrev row : ℕ → Option Call → Bool
