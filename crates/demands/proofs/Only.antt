@@ -17,7 +17,7 @@ use Rattle.model.specs.State.{State}
 use Rattle.model.specs.Ranges.{fits-32}
 use Rattle.model.specs.Sound.{sound}
 use Rattle.model.specs.Answers.{number, accepted, report}
-use Rattle.model.specs.Calls.{advance, calls, numbered, answers, unused-id, unused-bcd}
+use Rattle.model.specs.Calls.{advance, calls, advance-call, is-advance, numbered, answers, unused-id, unused-bcd}
 use Rattle.model.specs.Time.{Next}
 use Rattle.model.specs.Kernel.{judge, answer, call}
 use Rattle.model.specs.Promises.{advancing}
@@ -49,9 +49,9 @@ known Waits = refl
 
 -- ---- an advance that is accepted has nothing but its ticks
 
-bare : (q : Request) → eqb (q .call) 22 ≡ true → unused-id q ≡ true → unused-bcd q ≡ true → q ≡ advancing (q .a)
+bare : (q : Request) → is-advance q ≡ true → unused-id q ≡ true → unused-bcd q ≡ true → q ≡ advancing (q .a)
 bare q call id bcd = λ j. record {
-  call = eqb-true (q .call) 22 call j;
+  call = eqb-true (q .call) advance-call call j;
   id = eqb-true (q .id) 0 id j;
   a = q .a;
   b = eqb-true (q .b) 0 (left (eqb (q .b) 0) _ bcd) j;
@@ -59,13 +59,13 @@ bare q call id bcd = λ j. record {
   d = eqb-true (q .d) 0 (left (eqb (q .d) 0) _ (right (eqb (q .c) 0) _ (right (eqb (q .b) 0) _ bcd))) j;
 }
 
-accepted-advance : (s : State) (q : Request) → accepted (call s q .report .answer) ≡ true → eqb (q .call) 22 ≡ true
+accepted-advance : (s : State) (q : Request) → accepted (call s q .report .answer) ≡ true → is-advance q ≡ true
     → (sound s ≡ true) × (fits-32 (q .a) ≡ true) × (q ≡ advancing (q .a))
 unfolding answer judge numbered calls answers
 accepted-advance s q taken is = by-sound (sound s) refl
   where
     at : numbered (q .call) ≡ some advance
-    at = ap numbered (eqb-true (q .call) 22 is)
+    at = ap numbered (eqb-true (q .call) advance-call is)
 
     given : accepted (answer s q) ≡ true
     given = ap accepted (sym (reply-answer s q)) ∙ taken
@@ -102,21 +102,21 @@ module _ (K : Kernel) (meets : Demands K) (s : State) (q : Request) where
   same-after = as-after K (meets .second) s q
 
   same-wakeups : K s q .report .wakeups ≡ call s q .report .wakeups
-  same-wakeups = by-test (accepted (call s q .report .answer) && eqb (q .call) 22) refl
+  same-wakeups = by-test (accepted (call s q .report .answer) && is-advance q) refl
     where
-      none-told : (L : Kernel) → Demand1 L → accepted (L s q .report .answer) && eqb (q .call) 22 ≡ false → L s q .report .wakeups ≡ 0
+      none-told : (L : Kernel) → Demand1 L → accepted (L s q .report .answer) && is-advance q ≡ false → L s q .report .wakeups ≡ 0
       none-told L first e = elim (first .quiet s q) [
         | inl advances ↦ absurd (true≢false (sym advances ∙ e))
         | inr none ↦ none
       ]
 
-      by-test : (b : Bool) → accepted (call s q .report .answer) && eqb (q .call) 22 ≡ b → K s q .report .wakeups ≡ call s q .report .wakeups
+      by-test : (b : Bool) → accepted (call s q .report .answer) && is-advance q ≡ b → K s q .report .wakeups ≡ call s q .report .wakeups
       by-test true e =
-          let h = accepted-advance s q (left (accepted (call s q .report .answer)) (eqb (q .call) 22) e) (right (accepted (call s q .report .answer)) (eqb (q .call) 22) e) in
+          let h = accepted-advance s q (left (accepted (call s q .report .answer)) (is-advance q) e) (right (accepted (call s q .report .answer)) (is-advance q) e) in
           subst (λ (r : Request). K s r .report .wakeups ≡ call s r .report .wakeups) (sym (h .2))
           (meets .third .counted s (h .0) (q .a) (h .1) ∙ sym (ours .third .counted s (h .0) (q .a) (h .1)))
       by-test false e =
-          none-told K (meets .first) (ap (λ (a : Answer). accepted a && eqb (q .call) 22) same-answer ∙ e)
+          none-told K (meets .first) (ap (λ (a : Answer). accepted a && is-advance q) same-answer ∙ e)
           ∙ sym (none-told call (ours .first) e)
 
   same-next : K s q .report .next ≡ call s q .report .next

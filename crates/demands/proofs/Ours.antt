@@ -11,6 +11,7 @@ use Rattle.model.specs.State.{State}
 use Rattle.model.specs.Ranges.{fits-32}
 use Rattle.model.specs.Sound.{sound}
 use Rattle.model.specs.Answers.{number, accepted, report}
+use Rattle.model.specs.Calls.{is-advance}
 use Rattle.model.specs.Time.{next}
 use Rattle.model.specs.Kernel.{Outcome, answer, call}
 use Rattle.model.specs.Promises.{advancing}
@@ -29,16 +30,16 @@ ours-told s q = by-test (eqb (number (answer s q)) 1) refl
     by-test true e = rw (e, e)
     by-test false e = rw (e, e)
 
-ours-quiet : (s : State) (q : Request) → (accepted (call s q .report .answer) && eqb (q .call) 22 ≡ true) ⊎ (call s q .report .wakeups ≡ 0)
+ours-quiet : (s : State) (q : Request) → (accepted (call s q .report .answer) && is-advance q ≡ true) ⊎ (call s q .report .wakeups ≡ 0)
 unfolding call wakeups
-ours-quiet s q = by-test (accepted (answer s q) && eqb (q .call) 22) refl
+ours-quiet s q = by-test (accepted (answer s q) && is-advance q) refl
   where
-    none-told : (b : Bool) → eqb (number (answer s q)) 1 ≡ b → accepted (answer s q) && eqb (q .call) 22 ≡ false → call s q .report .wakeups ≡ 0
+    none-told : (b : Bool) → eqb (number (answer s q)) 1 ≡ b → accepted (answer s q) && is-advance q ≡ false → call s q .report .wakeups ≡ 0
     none-told true one e = rw one
     none-told false one e = rw (one, e)
 
-    by-test : (b : Bool) → accepted (answer s q) && eqb (q .call) 22 ≡ b
-        → (accepted (call s q .report .answer) && eqb (q .call) 22 ≡ true) ⊎ (call s q .report .wakeups ≡ 0)
+    by-test : (b : Bool) → accepted (answer s q) && is-advance q ≡ b
+        → (accepted (call s q .report .answer) && is-advance q ≡ true) ⊎ (call s q .report .wakeups ≡ 0)
     by-test true e = inl (rw (reply-answer s q) e)
     by-test false e = inr (none-told (eqb (number (answer s q)) 1) refl e)
 

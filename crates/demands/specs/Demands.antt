@@ -12,7 +12,7 @@ use Rattle.model.specs.Parts.{thread}
 use Rattle.model.specs.Ranges.{_implies_, fits-32}
 use Rattle.model.specs.Sound.{sound}
 use Rattle.model.specs.Answers.{number, accepted, report}
-use Rattle.model.specs.Calls.{numbered}
+use Rattle.model.specs.Calls.{is-advance, numbered}
 use Rattle.model.specs.Tick.{wakes}
 use Rattle.model.specs.Time.{after-ticks, Next}
 use Rattle.model.specs.Kernel.{Outcome, perform}
@@ -34,7 +34,7 @@ pub record Demand1 (K : Kernel) : Type 0 where
   -- with 1 nothing is told, else what the table handed back has; no wake-ups but those of an advance that is done
   pub told : (s : State) (q : Request)
       → K s q .report ≡ report (K s q .report .answer) (K s q .after) (K s q .report .wakeups) (K s q .report .next)
-  pub quiet : (s : State) (q : Request) → (accepted (K s q .report .answer) && eqb (q .call) 22 ≡ true) ⊎ (K s q .report .wakeups ≡ 0)
+  pub quiet : (s : State) (q : Request) → (accepted (K s q .report .answer) && is-advance q ≡ true) ⊎ (K s q .report .wakeups ≡ 0)
 
 -- ---- 2: every accepted call has exactly its effect
 

@@ -14,6 +14,7 @@ use Rattle.model.specs.Ranges.{fits-32}
 use Rattle.model.specs.Words.{is-ready, become-ready}
 use Rattle.model.specs.Sound.{sound}
 use Rattle.model.specs.Answers.{accepted}
+use Rattle.model.specs.Calls.{is-advance}
 use Rattle.model.specs.Tick.{wrap}
 use Rattle.model.specs.Time.{after-ticks, Next, next}
 use Rattle.model.specs.Kernel.{Outcome, outcome, call}
@@ -83,7 +84,7 @@ once n s = cond (ltb 0 (next s) && leb (next s) n) (with-clock (wrap (s .clock +
 abbrev pub handling-once : Kernel
 handling-once =
     but
-    (λ s q o. cond (accepted (o .report .answer) && eqb (q .call) 22)
+    (λ s q o. cond (accepted (o .report .answer) && is-advance q)
     (outcome (o .report .answer) (o .report .wakeups) (once (q .a) s))
     o)
 

@@ -2,6 +2,7 @@
 -- numbers, for calls that are to be refused.
 use Prim.Native.Nat.{ℕ, _+_, _*_}
 use Rattle.model.specs.declared.requests.Request.{Request}
+use Rattle.model.specs.Calls.{advance-call}
 
 -- any six numbers
 abbrev pub ask : ℕ → ℕ → ℕ → ℕ → ℕ → ℕ → Request
@@ -72,4 +73,4 @@ abbrev pub scheduling : ℕ → Request
 scheduling on = ask 21 0 on 0 0 0
 
 abbrev pub advance : ℕ → Request
-advance span = ask 22 0 span 0 0 0
+advance span = ask advance-call 0 span 0 0 0

@@ -1,10 +1,10 @@
 -- 01, Examples at the edges: P1 to P12, one table. Every value that the document names of them is an expected one, and
 -- so is the answer of each call on the way. `cases-hold` in proofs/ is the one statement on all of them.
 use mathlib.Core.List.{List, [], _∷_}
-use Rattle.model.specs.State.{fresh}
+use Rattle.model.specs.State.{sleep-list, fresh}
 use Rattle.model.specs.Parts.{with-clock}
 use Rattle.examples.specs.Asking.{create-thread, start, yield, sleep, create-semaphore, pend, post, create-mutex, claim, release, create-flags, wait, set, start-timer, scheduling, advance}
-use Rattle.examples.specs.Probes.{Case, _is_, _gives_then_, end, answer, chosen, clock, wakeups, next, current, left, result, delivered, count, owner, timer-left, ready-length, ready-at}
+use Rattle.examples.specs.Probes.{Case, _is_, _gives_then_, end, answer, chosen, clock, wakeups, next, current, left, result, delivered, count, owner, timer-left, ready-length, list-length, ready-at, list-at}
 
 unfoldable pub cases : List Case
 cases =
@@ -134,16 +134,16 @@ cases =
           pend 1 0 gives answer is 0 ∷ [] then
           end;
     }
-    -- P12: two sleepers whose time is up in one tick become ready by id
+    -- P12: two sleepers whose time is up in one tick become ready by id, although the greater id slept first
     ∷ record {
       from = fresh;
       steps =
           create-thread 9 4 0 gives answer is 0 ∷ [] then
           create-thread 4 4 0 gives answer is 0 ∷ [] then
           start 9 gives answer is 0 ∷ [] then
-          start 4 gives answer is 0 ∷ [] then
-          sleep 3 gives answer is 10 ∷ clock is 0 ∷ [] then
-          sleep 3 gives answer is 10 ∷ clock is 0 ∷ ready-length 4 is 0 ∷ [] then
+          start 4 gives answer is 0 ∷ chosen is 9 ∷ [] then
+          sleep 3 gives answer is 10 ∷ clock is 0 ∷ chosen is 4 ∷ [] then
+          sleep 3 gives answer is 10 ∷ clock is 0 ∷ ready-length 4 is 0 ∷ list-length sleep-list is 2 ∷ list-at sleep-list 0 is 9 ∷ list-at sleep-list 1 is 4 ∷ [] then
           advance 3 gives answer is 0 ∷ wakeups is 1 ∷ ready-length 4 is 2 ∷ ready-at 4 0 is 4 ∷ ready-at 4 1 is 9 ∷ [] then
           end;
     }

@@ -11,6 +11,7 @@ use Rattle.model.specs.declared.tables.Flags.{Flags}
 use Rattle.model.specs.declared.tables.Timer.{Timer}
 use Rattle.model.specs.declared.tables.IdList.{IdList}
 use Rattle.model.specs.declared.tables.Table.{Table}
+use Rattle.model.specs.State.{list-count}
 use Rattle.model.specs.Layout.{Rows}
 
 abbrev pub image-length : ℕ
@@ -119,7 +120,7 @@ table-of s =
       flags = chunks flags-of 3 4 (part 330 12 s);
       timers = chunks timer-of 17 8 (part 342 136 s);
       lengths = part 478 8 s;
-      waits = chunks list-of 17 18 (part 614 306 s);
+      waits = chunks list-of 17 list-count (part 614 306 s);
     }
 
 unfoldable pub rows-of : List ℕ → Rows

@@ -35,6 +35,17 @@ calls =
     ∷ scheduling ∷ advance
     ∷ []
 
+-- how many there are, which is the last one's number
+abbrev pub call-count : ℕ
+call-count = 22
+
+-- the call in which time passes: a number of its own, which stays as it is when calls are appended
+abbrev pub advance-call : ℕ
+advance-call = 22
+
+abbrev pub is-advance : Request → Bool
+is-advance q = eqb (q .call) advance-call
+
 unfoldable pub numbered : ℕ → Option Call
 numbered zero = none
 numbered (suc n) = getElem? calls n

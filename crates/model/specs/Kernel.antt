@@ -3,7 +3,6 @@
 use mathlib.Core.Bool.{Bool, true, false, cond, _&&_}
 use mathlib.Core.Option.{Option, none, some}
 use Prim.Native.Nat.{ℕ}
-use lib.Dec.{eqb}
 use Rattle.model.specs.declared.answers.Answer.{Answer}
 use Rattle.model.specs.declared.answers.Answer.the-variants.{Unsound, NoCall}
 use Rattle.model.specs.declared.answers.Report.{Report}
@@ -12,7 +11,7 @@ use Rattle.model.specs.State.{State}
 use Rattle.model.specs.Words.{settle, choose}
 use Rattle.model.specs.Sound.{sound}
 use Rattle.model.specs.Answers.{accepted, report, first-due}
-use Rattle.model.specs.Calls.{Call, create-thread, start, stop, exit, yield, sleep, set-priority, set-quantum, create-semaphore, pend, post, create-mutex, claim, release, create-flags, wait, set, clear, start-timer, stop-timer, scheduling, advance, numbered, answers}
+use Rattle.model.specs.Calls.{Call, create-thread, start, stop, exit, yield, sleep, set-priority, set-quantum, create-semaphore, pend, post, create-mutex, claim, release, create-flags, wait, set, clear, start-timer, stop-timer, scheduling, advance, is-advance, numbered, answers}
 use Rattle.model.specs.Effects.{create-thread-effect, start-effect, stop-effect, exit-effect, yield-effect, sleep-effect, set-priority-effect, set-quantum-effect}
 use Rattle.model.specs.Effects.{create-semaphore-effect, pend-effect, post-effect, create-mutex-effect, claim-effect, release-effect}
 use Rattle.model.specs.Effects.{create-flags-effect, wait-effect, set-effect, clear-effect, start-timer-effect, stop-timer-effect, scheduling-effect}
@@ -68,9 +67,9 @@ perform true (some c) q s = accept c q s
 unfoldable pub next-state : Answer → Request → State → State
 next-state a q s = perform (accepted a) (numbered (q .call)) q s
 
--- how many ticks pass in a call: those of an advance (22) that is done, else none
+-- how many ticks pass in a call: those of an advance that is done, else none
 abbrev pub span : Answer → Request → ℕ
-span a q = cond (accepted a && eqb (q .call) 22) (q .a) 0
+span a q = cond (accepted a && is-advance q) (q .a) 0
 
 -- ---- the whole reply
 

@@ -10,12 +10,13 @@ use Rattle.sequences.specs.Lists.{among, head-or, every-below, some-below}
 use Rattle.sequences.specs.Steps.{in-order}
 use Rattle.model.specs.declared.answers.Answer.the-variants.{Unsound, NoCall}
 use Rattle.model.specs.declared.requests.Request.{Request}
-use Rattle.model.specs.State.{State, nobody, priority-count, fresh}
-use Rattle.model.specs.Parts.{thread, timer, ready-list}
-use Rattle.model.specs.Ranges.{_implies_}
+use Rattle.model.specs.State.{State, nobody, priority-count, semaphore-list, fresh}
+use Rattle.model.specs.Parts.{thread, semaphore, mutex, flag-object, timer, ready-list, list}
+use Rattle.model.specs.Ranges.{_implies_, has-thread, has-semaphore, has-mutex, has-flags}
+use Rattle.model.specs.Words.{holds}
 use Rattle.model.specs.Sound.{sound}
 use Rattle.model.specs.Answers.{Given, _when_, number}
-use Rattle.model.specs.Calls.{Call, pend-waits, claim-waits, wait-waits, numbered, answers}
+use Rattle.model.specs.Calls.{Call, call-count, advance-call, numbered, answers}
 use Rattle.model.specs.Tick.{clock-step, quantum-step, quantum-ends, timer-tick, limit-tick, before-limits}
 use Rattle.model.specs.Kernel.{call}
 
@@ -37,21 +38,42 @@ applies-in n (g ∷ gs) = (eqb (number (g .answer)) n && g .due) || applies-in n
 unfoldable pub applies : ℕ → State → Request → Bool
 applies n s q = applies-in n (rows s q)
 
--- what 01 says of several calls at once, by their numbers: which there are; which need a running thread; which are refused with scheduling
--- off, three of them always, a stop of the running thread, and those that would wait
+-- what 01 says of several calls at once, told a second time, by their numbers and from the fields: which calls there are
 abbrev pub is-call : Request → Bool
-is-call q = ltb 0 (q .call) && leb (q .call) 22
+is-call q = ltb 0 (q .call) && leb (q .call) call-count
 
+-- which create what is there
+abbrev pub creates-existing : Request → State → Bool
+creates-existing q s =
+    (eqb (q .call) 1 && has-thread (q .id) s)
+    || (eqb (q .call) 9 && has-semaphore (q .id) s)
+    || (eqb (q .call) 12 && has-mutex (q .id) s)
+    || (eqb (q .call) 15 && has-flags (q .id) s)
+
+-- which need a running thread
 abbrev pub needs-running : Request → Bool
 needs-running q = among (q .call) (4 ∷ 5 ∷ 6 ∷ 10 ∷ 13 ∷ 14 ∷ 16 ∷ [])
 
+-- which would wait: a pend with no count left, a claim of another's mutex, a wait whose condition doesn't hold
+abbrev pub would-wait : Request → State → Bool
+would-wait q s =
+    (eqb (q .call) 10 && eqb (semaphore (q .id) s .count) 0)
+    || (eqb (q .call) 13 && ltb 0 (mutex (q .id) s .depth) && not (eqb (mutex (q .id) s .owner) (s .chosen)))
+    || (eqb (q .call) 16 && not (holds (q .b) (q .a) (flag-object (q .id) s .word)))
+
+-- which are refused with scheduling off: three always, a stop of the running thread, and those that would wait
 abbrev pub needs-scheduling : Request → State → Bool
-needs-scheduling q s =
-    among (q .call) (4 ∷ 5 ∷ 6 ∷ [])
-    || (eqb (q .call) 3 && eqb (q .id) (s .chosen))
-    || (eqb (q .call) 10 && pend-waits q s)
-    || (eqb (q .call) 13 && claim-waits q s)
-    || (eqb (q .call) 16 && wait-waits q s)
+needs-scheduling q s = among (q .call) (4 ∷ 5 ∷ 6 ∷ []) || (eqb (q .call) 3 && eqb (q .id) (s .chosen)) || would-wait q s
+
+-- which find no room: a post at the maximum that nobody waits for, a claim by the owner at 255 levels
+abbrev pub is-full : Request → State → Bool
+is-full q s =
+    (eqb (q .call) 11 && eqb (semaphore (q .id) s .count) (semaphore (q .id) s .maximum) && eqb (length (list (semaphore-list (q .id)) s)) 0)
+    || (eqb (q .call) 13 && eqb (mutex (q .id) s .depth) 255 && eqb (mutex (q .id) s .owner) (s .chosen))
+
+-- after which the caller sleeps or waits: a sleep always, and those that would wait
+abbrev pub waits-or-sleeps : Request → State → Bool
+waits-or-sleeps q s = eqb (q .call) 6 || would-wait q s
 
 -- ---- 2: who is chosen
 
@@ -73,9 +95,9 @@ heads-highest s =
 
 -- ---- 3: advances
 
--- call 22 by n ticks
+-- the call in which n ticks pass
 abbrev pub advancing : ℕ → Request
-advancing n = record { call = 22; id = 0; a = n; b = 0; c = 0; d = 0 }
+advancing n = record { call = advance-call; id = 0; a = n; b = 0; c = 0; d = 0 }
 
 -- n calls, each of which advances by 1: the table after them, and the wake-ups that they report together
 unfoldable pub one-by-one : ℕ → State → State

@@ -1,4 +1,4 @@
-// The numbers of the calls (01, Calls), in its order.
+// The numbers of the calls (01, Calls), in its order, and how many there are.
 pub const CREATE_THREAD: u32 = 1;
 
 pub const START: u32 = 2;
@@ -42,3 +42,5 @@ pub const STOP_TIMER: u32 = 20;
 pub const SCHEDULING: u32 = 21;
 
 pub const ADVANCE: u32 = 22;
+
+pub const CALL_COUNT: u32 = 22;

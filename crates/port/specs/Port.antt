@@ -50,8 +50,12 @@ unsound-report = record { answer = Unsound; chosen = nobody; clock = 0; wakeups 
 unfoldable pub report-of : List ℕ → Request → Report
 report-of image q = cond (sound-image image) (told (stored-in image) q) unsound-report
 
-abbrev pub five-numbers : Report → List ℕ
-five-numbers r = number (r .answer) ∷ r .chosen ∷ r .clock ∷ r .wakeups ∷ r .next ∷ []
+-- a report as numbers, and how many they are
+abbrev pub report-numbers : Report → List ℕ
+report-numbers r = number (r .answer) ∷ r .chosen ∷ r .clock ∷ r .wakeups ∷ r .next ∷ []
+
+abbrev pub report-length : ℕ
+report-length = 5
 
 unfoldable pub image-after : List ℕ → Request → List ℕ
 image-after image q = cond (sound-image image) (as-image (kept (stored-in image) q)) image

@@ -3,17 +3,20 @@ ghost use mathlib.Core.Path.{_≡_};
 ghost use mathlib.Core.List.{[], _∷_};
 ghost use Rattle.model.specs.Answers.{number};
 ghost use Rattle.image.specs.Image.{image-length};
-ghost use Rattle.port.specs.Port.{right-length, sound-image, zero-if, fresh-after, asked, report-of, five-numbers, image-after, next-in};
+ghost use Rattle.port.specs.Port.{right-length, sound-image, zero-if, fresh-after, asked, report-of, report-numbers, image-after, next-in};
 use image::IMAGE_LENGTH;
 use model::answers::Report;
 use model::requests::Request;
 use model::tables::NOBODY;
 
-// What is told of an image that isn't sound, a wrong length among the reasons.
-const REFUSED: [u32; 5] = [1, NOBODY as u32, 0, 0, 0];
+// Answer, chosen thread, clock, wake-ups, next wake-up.
+const REPORT_LENGTH: usize = 5;
 
-fn as_numbers(told: Report) -> [u32; 5]
-    ensures { λ r. ⌜ r ≡ five-numbers told ⌝ }
+// What is told of an image that isn't sound, a wrong length among the reasons.
+const REFUSED: [u32; REPORT_LENGTH] = [1, NOBODY as u32, 0, 0, 0];
+
+fn as_numbers(told: Report) -> [u32; REPORT_LENGTH]
+    ensures { λ r. ⌜ r ≡ report-numbers told ⌝ }
 {
     let answer = told.answer;
     [
@@ -67,10 +70,10 @@ pub extern "C" fn ordizgum_call(
     b: u32,
     c: u32,
     d: u32,
-    report: &mut [u32; 5],
+    report: &mut [u32; REPORT_LENGTH],
 ) -> u32
     ensures answer { λ r. ⌜ r ≡ number (report-of (now (image .entry)) (asked call id a b c d) .answer) ⌝ }
-    ensures report { λ _. ⌜ now (report .exit) ≡ five-numbers (report-of (now (image .entry)) (asked call id a b c d)) ⌝ }
+    ensures report { λ _. ⌜ now (report .exit) ≡ report-numbers (report-of (now (image .entry)) (asked call id a b c d)) ⌝ }
     ensures image { λ _. ⌜ now (image .exit) ≡ image-after (now (image .entry)) (asked call id a b c d) ⌝ }
 {
     if image.len() != IMAGE_LENGTH {

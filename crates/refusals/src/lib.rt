@@ -6,7 +6,7 @@ ghost use Rattle.model.specs.Calls.{numbered};
 ghost use Rattle.model.specs.Kernel.{judge};
 ghost use Rattle.model.specs.Layout.{view, sound-table};
 use model::answers::Answer;
-use model::calls::ADVANCE;
+use model::calls::CALL_COUNT;
 use model::calls::CREATE_FLAGS;
 use model::calls::CREATE_MUTEX;
 use model::calls::CREATE_SEMAPHORE;
@@ -32,7 +32,7 @@ pub fn answer(t: Table, rows: [[u8; 16]; 8], q: Request) -> Answer
     ensures { λ r. ⌜ r ≡ judge (numbered (q .call)) q (view t rows) ⌝ }
 {
     let call = q.call;
-    if (call < CREATE_THREAD) | (ADVANCE < call) {
+    if (call < CREATE_THREAD) | (CALL_COUNT < call) {
         return Answer::NoCall;
     }
     if call < CREATE_SEMAPHORE {

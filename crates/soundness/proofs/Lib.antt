@@ -1,7 +1,6 @@
 pub mod Tops
 pub mod Fitting
 pub mod Stopping
-pub mod Positive
 pub mod Asking
 pub mod Counting
 pub mod Counted

@@ -7,6 +7,7 @@ use Prim.Native.Nat.{ℕ, _+_, _<_}
 use lib.Dec.{eqb, leb, ltb}
 use lib.ListN.{getD}
 use Rattle.sequences.specs.Lists.{every, every-below, all-true, count-all}
+use Rattle.sequences.proofs.Positive.{not-positive}
 use Rattle.model.specs.declared.tables.Table.{Table}
 use Rattle.model.specs.State.{State, absent-thread}
 use Rattle.model.specs.Parts.{thread}
@@ -20,7 +21,6 @@ use Rattle.table.proofs.ByArray.{owns-any-one-of}
 use Rattle.soundness.specs.Records.{thread-fits}
 use Rattle.soundness.specs.Shape.{Shape}
 use Rattle.sequences.proofs.Bounds.{every-by-columns}
-use Rattle.soundness.proofs.Positive.{not-positive}
 
 -- who neither waits nor sleeps
 neither-zero : (a b : Bool) (n : ℕ) → (a || b) ≡ ltb 0 n → (not a && not b) ≡ eqb n 0

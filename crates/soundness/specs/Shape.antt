@@ -2,6 +2,7 @@
 use mathlib.Core.Path.{_≡_}
 use lib.ListN.{length}
 use Rattle.model.specs.declared.tables.Table.{Table}
+use Rattle.model.specs.State.{list-count}
 use Rattle.model.specs.Layout.{Rows}
 
 pub record Shape (t : Table) (beside : Rows) : Type 0 where
@@ -11,5 +12,5 @@ pub record Shape (t : Table) (beside : Rows) : Type 0 where
   pub flags : length (t .flags) ≡ 4
   pub timers : length (t .timers) ≡ 8
   pub lengths : length (t .lengths) ≡ 8
-  pub waits : length (t .waits) ≡ 18
+  pub waits : length (t .waits) ≡ list-count
   pub rows : length beside ≡ 8

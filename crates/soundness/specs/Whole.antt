@@ -4,7 +4,7 @@ use mathlib.Core.List.{List, [], _∷_}
 use lib.ListN.{getD}
 use Rattle.sequences.specs.Lists.{every, every-below, all-true}
 use Rattle.model.specs.declared.tables.Table.{Table}
-use Rattle.model.specs.State.{State}
+use Rattle.model.specs.State.{State, list-count}
 use Rattle.model.specs.Ranges.{is-bit}
 use Rattle.model.specs.Sound.{thread-in-range, semaphore-in-range, mutex-in-range, flags-in-range, timer-in-range}
 use Rattle.model.specs.Sound.{each-on-one-list, absent-threads-zero, ready-by-priority, wait-lists-fall, currents-fit, awaited-semaphores-empty, counts-within-maximum}
@@ -19,7 +19,7 @@ abbrev pub ready-fits : Table → Rows → Bool
 ready-fits t rows = every-below 8 (λ p. list-fits (getD (t .lengths) p 0) (getD rows p []))
 
 abbrev pub waits-fit : Table → Bool
-waits-fit t = every-below 18 (λ j. wait-list-fits (list-at (t .waits) j))
+waits-fit t = every-below list-count (λ j. wait-list-fits (list-at (t .waits) j))
 
 unfoldable pub lists-fit : Table → Rows → Bool
 lists-fit t rows = ready-fits t rows && waits-fit t

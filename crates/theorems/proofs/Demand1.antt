@@ -16,10 +16,10 @@ use Rattle.model.specs.Answers.{number, accepted, report}
 use Rattle.model.specs.Calls.{numbered, nobody-runs, scheduling-off}
 use Rattle.model.specs.Time.{next}
 use Rattle.model.specs.Kernel.{outcome, judge, answer, perform, next-state, call}
-use Rattle.model.specs.Promises.{applies, rows, is-call, needs-running, needs-scheduling}
+use Rattle.model.specs.Promises.{applies, rows, is-call, creates-existing, needs-running, needs-scheduling, is-full, waits-or-sleeps}
 use Rattle.theorems.proofs.Lowest.{lowest-exactly, lowest-done}
 use Rattle.theorems.proofs.Replies.{number-most, judge-other, reply-answer, reply-lowest, reply-told}
-use Rattle.theorems.proofs.ByNumber.{number-rows, running-rows, scheduling-rows}
+use Rattle.theorems.proofs.ByNumber.{number-rows, existing-rows, running-rows, scheduling-rows, full-rows, waiting-rows}
 
 -- every call ends with an answer
 pub answered : (s : State) (q : Request) → number (call s q .report .answer) ≤ 10
@@ -36,18 +36,30 @@ pub done-exactly : (s : State) (q : Request) → eqb (number (call s q .report .
 unfolding applies
 done-exactly s q = lowest-done (reply-lowest s q) 11 (omega (arith, answered s q))
 
--- rows 2, 6 and 7, each over all calls
+-- the rows that 01 tells of several calls at once, each over all calls: 2, 5, 6, 7, 9 and 10
 pub number-row : (s : State) (q : Request) → applies 2 s q ≡ not (is-call q)
 unfolding applies rows
-number-row s q = number-rows q s (q .call)
+number-row s q = number-rows q s
+
+pub existing-row : (s : State) (q : Request) → applies 5 s q ≡ creates-existing q s
+unfolding applies rows
+existing-row s q = existing-rows q s
 
 pub running-row : (s : State) (q : Request) → applies 6 s q ≡ needs-running q && nobody-runs s
 unfolding applies rows
-running-row s q = running-rows q s (q .call)
+running-row s q = running-rows q s
 
 pub scheduling-row : (s : State) (q : Request) → applies 7 s q ≡ scheduling-off s && needs-scheduling q s
 unfolding applies rows
-scheduling-row s q = scheduling-rows q s (q .call)
+scheduling-row s q = scheduling-rows q s
+
+pub full-row : (s : State) (q : Request) → applies 9 s q ≡ is-full q s
+unfolding applies rows
+full-row s q = full-rows q s
+
+pub waiting-row : (s : State) (q : Request) → applies 10 s q ≡ waits-or-sleeps q s
+unfolding applies rows
+waiting-row s q = waiting-rows q s
 
 -- 1 exactly where the table isn't sound
 pub unsound-exactly : (s : State) (q : Request) → eqb (number (call s q .report .answer)) 1 ≡ not (sound s)

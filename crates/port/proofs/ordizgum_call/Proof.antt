@@ -13,7 +13,7 @@ use Rattle.model.specs.Answers.{accepted}
 use Rattle.model.specs.Layout.{Rows, Laid, call-table}
 use Rattle.model.specs.Stored.{called}
 use Rattle.image.specs.Image.{image-of}
-use Rattle.port.specs.Port.{stored-in, asked, report-of, five-numbers, image-after}
+use Rattle.port.specs.Port.{stored-in, asked, report-of, report-numbers, image-after}
 use Rattle.port.proofs.Images.{wrong-length, told-in, kept-in, untouched-in}
 use borrow.Author.Needs.{needs}
 use Rattle.port.proofs.ordizgum_call.Statement.{statement}
@@ -48,7 +48,7 @@ returns-2 c =
     ∙ ap₂ (λ (t : Table) (rows : Rows). call-table t rows q) (h .before .before .read-table .ensures) (h .before .before .before .before .read-rows .ensures)
     in
     let same = ap (λ (l : Laid). l .reply .report) handed ∙ sym (told-in s fits q) in
-    let numbers = c .as-numbers .ensures ∙ ap five-numbers same in (
+    let numbers = c .as-numbers .ensures ∙ ap report-numbers same in (
       ap (λ (l : List ℕ). getD l 0 0) numbers,
       (
         numbers,

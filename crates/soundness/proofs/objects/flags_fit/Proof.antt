@@ -4,9 +4,9 @@ use mathlib.Core.Bool.{true, and-true, Bool·not-not}
 use lib.Dec.{leb}
 use native.Mathlib.Omega.{arith}
 use borrow.Author.Tests.{le-leb}
+use Rattle.sequences.proofs.Positive.{positive-nonzero}
 use Rattle.model.specs.Sound.{flags-in-range}
 use Rattle.soundness.specs.Records.{flags-fit}
-use Rattle.soundness.proofs.Positive.{positive-nonzero}
 use Rattle.soundness.proofs.objects.flags_fit.Statement.{statement}
 use Rattle.soundness.proofs.objects.flags_fit.Tie as tie
 

@@ -4,9 +4,9 @@ use mathlib.Core.Bool.{true, and-assoc, and-true, Bool·not-not}
 use lib.Dec.{leb}
 use native.Mathlib.Omega.{arith}
 use borrow.Author.Tests.{le-leb}
+use Rattle.sequences.proofs.Positive.{positive-nonzero}
 use Rattle.model.specs.Sound.{semaphore-in-range}
 use Rattle.soundness.specs.Records.{semaphore-fits}
-use Rattle.soundness.proofs.Positive.{positive-nonzero}
 use Rattle.soundness.proofs.objects.semaphore_fits.Statement.{statement}
 use Rattle.soundness.proofs.objects.semaphore_fits.Tie as tie
 

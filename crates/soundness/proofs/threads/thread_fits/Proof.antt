@@ -4,11 +4,11 @@ use mathlib.Core.Bool.{Bool, not, _&&_, _||_, and-assoc, and-true}
 use Prim.Native.Nat.{ℕ}
 use borrow.Author.Needs.{needs}
 use lib.Dec.{eqb, leb, ltb}
+use Rattle.sequences.proofs.Positive.{not-positive}
 use Rattle.model.specs.declared.tables.Thread.{Thread}
 use Rattle.model.specs.Ranges.{_implies_}
 use Rattle.model.specs.Sound.{thread-in-range, zero-thread}
 use Rattle.soundness.specs.Records.{thread-fits}
-use Rattle.soundness.proofs.Positive.{not-positive}
 use Rattle.soundness.proofs.threads.thread_fits.Statement.{statement}
 use Rattle.soundness.proofs.threads.thread_fits.Tie as tie
 
