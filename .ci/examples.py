@@ -2,20 +2,10 @@
 import copy
 import re
 
-from layout import CALLS, REPORT, TOP, place
+from layout import ANSWER, CALLS, MARK, RECORD, REPORT, TOP, number, numbers, value
 
 FILE = TOP / ".ci/examples.txt"
-MARK, RECORD, NUMBER = b"\xac\xdc", 20, 4
-TOLD = ["soundness", *(name.removeprefix("report-") for name in REPORT)]  # the numbers of an answer; behind them comes the image
-
-
-def number(n):
-    return n.to_bytes(NUMBER, "little")
-
-
-def numbers(data):
-    return [int.from_bytes(data[at : at + NUMBER], "little") for at in range(0, len(data), NUMBER)]
-
+TOLD = ["soundness", *REPORT]
 
 # ---- the file
 
@@ -33,7 +23,7 @@ class Step:
                 raise ValueError(f"no whole record: {self.text}")
             next_wake_up, *fields = others
             self.report = [*map(int, self.line.split()), int(next_wake_up.removeprefix("next "))]
-            self.fields = {name: int(value, 0) for name, value in (field.split(" is ") for field in fields)}
+            self.fields = {name: int(n, 0) for name, n in (field.split(" is ") for field in fields)}
 
     def case(self, image):
         """The call on an image, as second/README.md has cases."""
@@ -49,13 +39,13 @@ class Step:
             other = copy.copy(self)
             other.line = self.line[: found.start()] + str(int(found[0]) + 1) + self.line[found.end() :]
             yield other
-        for at, value in enumerate(self.report):
+        for at, n in enumerate(self.report):
             other = copy.copy(self)
-            other.report = [*self.report[:at], value + 1, *self.report[at + 1 :]]
+            other.report = [*self.report[:at], n + 1, *self.report[at + 1 :]]
             yield other
-        for name, value in self.fields.items():
+        for name, n in self.fields.items():
             other = copy.copy(self)
-            other.fields = {**self.fields, name: value + 1}
+            other.fields = {**self.fields, name: n + 1}
             yield other
 
 
@@ -100,17 +90,14 @@ class Answer:
     """The answer to a case: numbers by name, and the image after the call."""
 
     def __init__(self, data):
-        self.numbers, self.image = dict(zip(TOLD, numbers(data[: NUMBER * len(TOLD)]))), data[NUMBER * len(TOLD) :]
+        self.numbers, self.image = dict(zip(TOLD, numbers(data[:ANSWER]))), data[ANSWER:]
 
     def __eq__(self, other):
         return (self.numbers, self.image) == (other.numbers, other.image)
 
     def of(self, name):
         """One of the numbers, or what a field of the image holds."""
-        if name in self.numbers:
-            return self.numbers[name]
-        at, size = place(name)
-        return int.from_bytes(self.image[at : at + size], "little")
+        return self.numbers[name] if name in self.numbers else value(self.image, name)
 
     def parts(self):
         return {**self.numbers, **{f"byte {at} of the image": byte for at, byte in enumerate(self.image)}}
@@ -125,7 +112,7 @@ class Given:
         self.lines = replay(b"".join(step.record for step in example.steps)).decode(errors="replace").splitlines()
         for step in example.calls():
             given = answers(step.case(image))
-            if len(given) != NUMBER * len(TOLD) + len(image):
+            if len(given) != ANSWER + len(image):
                 self.failure = given[max(0, given.rfind(b"exit status")) :].decode(errors="replace").strip()
                 break
             self.answers.append(Answer(given))
