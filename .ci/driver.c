@@ -15,6 +15,8 @@
 #include <unistd.h>
 
 enum { LONGEST = 8192, PROTECT_EVERY = 64 };
+enum { NUMBER = 4, REQUEST = 6 }; /* a number's bytes in a case, and a request's numbers */
+enum { CHOSEN_AT = 5 };           /* docs/IMAGE.md */
 
 static unsigned long number_of_case;
 static int failures;
@@ -42,8 +44,8 @@ static uint32_t get32(const uint8_t *p) {
 }
 
 static void put32(uint32_t n) {
-    uint8_t bytes[4] = {(uint8_t)n, (uint8_t)(n >> 8), (uint8_t)(n >> 16), (uint8_t)(n >> 24)};
-    if (fwrite(bytes, 1, 4, stdout) != 4) stop("standard output");
+    uint8_t bytes[NUMBER] = {(uint8_t)n, (uint8_t)(n >> 8), (uint8_t)(n >> 16), (uint8_t)(n >> 24)};
+    if (fwrite(bytes, 1, NUMBER, stdout) != NUMBER) stop("standard output");
 }
 
 /* What is only looked at: soundness and the next wake-up. */
@@ -60,25 +62,25 @@ static uint32_t look(uint8_t *room, const uint8_t *image, size_t length, uint32_
 
 static void one_case(uint8_t *room, size_t length, uint32_t *report) {
     uint8_t *image = number_of_case % 2 == 0 ? room + LONGEST - length : room;
-    uint8_t request[24];
-    uint32_t next[1], unsound, answer;
-    if (fread(image, 1, length, stdin) != length || fread(request, 1, 24, stdin) != 24) stop("a case is short");
+    uint8_t request[REQUEST * NUMBER];
+    uint32_t asked[REQUEST], next[1], unsound, answer;
+    if (fread(image, 1, length, stdin) != length || fread(request, 1, sizeof request, stdin) != sizeof request) stop("a case is short");
+    for (int i = 0; i < REQUEST; i++) asked[i] = get32(request + NUMBER * i);
     unsound = look(room, image, length, next);
-    for (int i = 0; i < 5; i++) report[i] = 0xA5A5A5A5u;
-    answer = ordizgum_call(image, length, get32(request), get32(request + 4), get32(request + 8), get32(request + 12), get32(request + 16),
-                           get32(request + 20), report);
+    for (int i = 0; i < ORDIZGUM_REPORT_LENGTH; i++) report[i] = 0xA5A5A5A5u;
+    answer = ordizgum_call(image, length, asked[0], asked[1], asked[2], asked[3], asked[4], asked[5], report);
     if (answer != report[ORDIZGUM_REPORT_ANSWER]) differs("the answer isn't the report's");
     if ((answer == ORDIZGUM_UNSOUND) != (unsound == 1)) differs("answer 1 isn't that of the soundness test");
     if (answer != ORDIZGUM_UNSOUND && (look(room, image, length, next) != 0 || next[0] != report[ORDIZGUM_REPORT_NEXT_WAKE_UP]))
         differs("the next wake-up reported isn't that of the image");
     put32(unsound);
-    for (int i = 0; i < 5; i++) put32(report[i]);
+    for (int i = 0; i < ORDIZGUM_REPORT_LENGTH; i++) put32(report[i]);
     if (fwrite(image, 1, length, stdout) != length) stop("standard output");
 }
 
 /* A fresh image, and lengths that are refused. */
 static void fresh_images(uint8_t *room) {
-    static const size_t wrong[] = {0, 1, 919, 921, 1840, LONGEST};
+    static const size_t wrong[] = {0, 1, ORDIZGUM_IMAGE_LENGTH - 1, ORDIZGUM_IMAGE_LENGTH + 1, 2 * ORDIZGUM_IMAGE_LENGTH, LONGEST};
     memset(room, 0xA5, LONGEST);
     for (size_t i = 0; i < sizeof wrong / sizeof wrong[0]; i++) {
         if (ordizgum_fresh(room, wrong[i]) != 1) differs("a fresh image of a wrong length");
@@ -88,14 +90,14 @@ static void fresh_images(uint8_t *room) {
     if (ordizgum_image_length() != ORDIZGUM_IMAGE_LENGTH) differs("the image's length isn't the header's");
     if (ordizgum_fresh(room, ORDIZGUM_IMAGE_LENGTH) != 0 || ordizgum_sound(room, ORDIZGUM_IMAGE_LENGTH) != 0) differs("a fresh image isn't sound");
     for (size_t k = 0; k < LONGEST; k++)
-        if (room[k] != (k >= ORDIZGUM_IMAGE_LENGTH ? 0xA5 : k == 5 ? ORDIZGUM_NOBODY : 0)) differs("a byte of the fresh image");
+        if (room[k] != (k >= ORDIZGUM_IMAGE_LENGTH ? 0xA5 : k == CHOSEN_AT ? ORDIZGUM_NOBODY : 0)) differs("a byte of the fresh image");
 }
 
 int main(void) {
-    uint8_t *room = guarded(LONGEST), *reports = guarded(LONGEST), head[4];
-    uint32_t *report = (uint32_t *)(void *)(reports + LONGEST) - 5;
+    uint8_t *room = guarded(LONGEST), *reports = guarded(LONGEST), head[NUMBER];
+    uint32_t *report = (uint32_t *)(void *)(reports + LONGEST) - ORDIZGUM_REPORT_LENGTH;
     fresh_images(room);
-    while (fread(head, 1, 4, stdin) == 4) {
+    while (fread(head, 1, NUMBER, stdin) == NUMBER) {
         if (get32(head) > LONGEST) stop("an image is too long");
         one_case(room, get32(head), report);
         number_of_case++;

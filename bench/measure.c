@@ -27,8 +27,9 @@ static void stop(const char *what, uint32_t answer) {
 
 /* A call while a table is prepared: another answer than expected is a fault of the scenario. */
 static void make(uint32_t answer, uint32_t call, uint32_t id, uint32_t a, uint32_t b, uint32_t c) {
-    uint32_t report[5];
-    if (ordizgum_call(image, sizeof image, call, id, a, b, c, 0, report) != answer) stop("a call that prepares", report[0]);
+    uint32_t report[ORDIZGUM_REPORT_LENGTH];
+    uint32_t given = ordizgum_call(image, sizeof image, call, id, a, b, c, 0, report);
+    if (given != answer) stop("a call that prepares", given);
 }
 
 static void start_thread(uint32_t id, uint32_t priority, uint32_t quantum) {
@@ -64,10 +65,12 @@ static void busy_and_owned(void) {
     make(ORDIZGUM_DONE, ORDIZGUM_SET_PRIORITY, 6, 5, 0, 0);
 }
 
+enum { LENGTH_OF_READY_LIST_0 = 478, PLACES_OF_A_LIST = 16 }; /* docs/IMAGE.md */
+
 /* Ready list 0 is too long: the first thing that both sides look at among the lists. */
 static void busy_and_damaged(void) {
     busy();
-    image[478] = 17;
+    image[LENGTH_OF_READY_LIST_0] = PLACES_OF_A_LIST + 1;
 }
 
 static void round_of_two(void) {
@@ -126,7 +129,7 @@ static const struct scenario {
 };
 
 static uint32_t once(const struct scenario *s) {
-    uint32_t report[5];
+    uint32_t report[ORDIZGUM_REPORT_LENGTH];
     switch (s->kind) {
     case CALL:
         return ordizgum_call(image, sizeof image, s->call, s->id, ticks ? ticks : s->a, 0, 0, 0, report);

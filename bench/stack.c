@@ -13,12 +13,12 @@
 
 #include "ordizgum.h"
 
-enum { ROOM = 1 << 20, PAINT = 0x5A, THREADS = 8, OBJECTS = 4 };
+enum { ROOM = 1 << 20, PAINT = 0x5A, THREADS = 8, OBJECTS = 4, REQUEST = 6 };
 
 static uint8_t stack[ROOM];
 static ucontext_t home;
 static uint8_t image[ORDIZGUM_IMAGE_LENGTH];
-static uint32_t request[6], report[5], next[1];
+static uint32_t request[REQUEST], report[ORDIZGUM_REPORT_LENGTH], next[1];
 
 static void run_call(void) {
     ordizgum_call(image, sizeof image, request[0], request[1], request[2], request[3], request[4], request[5], report);
@@ -42,14 +42,16 @@ static size_t bytes_used(void (*function)(void)) {
 }
 
 static size_t call(uint32_t number, uint32_t id, uint32_t a, uint32_t b, uint32_t c, uint32_t d) {
-    uint32_t asked[6] = {number, id, a, b, c, d};
+    uint32_t asked[REQUEST] = {number, id, a, b, c, d};
     memcpy(request, asked, sizeof request);
     return bytes_used(run_call);
 }
 
 static size_t most(size_t a, size_t b) { return a > b ? a : b; }
 
-static void tell(const char *what, size_t bytes) { printf("%-32s %6zu bytes, answer %u\n", what, bytes, (unsigned)report[0]); }
+static void tell(const char *what, size_t bytes) {
+    printf("%-32s %6zu bytes, answer %u\n", what, bytes, (unsigned)report[ORDIZGUM_REPORT_ANSWER]);
+}
 
 int main(void) {
     size_t create, start = 0;

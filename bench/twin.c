@@ -773,14 +773,15 @@ INLINE uint32_t act(struct twin_table *t, uint32_t call, uint32_t id, uint32_t a
     }
 }
 
-static uint32_t report_unsound(uint32_t report[5]) {
+static uint32_t report_unsound(uint32_t report[ORDIZGUM_REPORT_LENGTH]) {
     report[ORDIZGUM_REPORT_ANSWER] = ORDIZGUM_UNSOUND;
     report[ORDIZGUM_REPORT_CHOSEN] = ORDIZGUM_NOBODY;
     report[ORDIZGUM_REPORT_CLOCK] = report[ORDIZGUM_REPORT_WAKE_UPS] = report[ORDIZGUM_REPORT_NEXT_WAKE_UP] = 0;
     return ORDIZGUM_UNSOUND;
 }
 
-uint32_t twin_call(struct twin_table *t, uint32_t call, uint32_t id, uint32_t a, uint32_t b, uint32_t c, uint32_t d, uint32_t report[5]) {
+uint32_t twin_call(struct twin_table *t, uint32_t call, uint32_t id, uint32_t a, uint32_t b, uint32_t c, uint32_t d,
+                   uint32_t report[ORDIZGUM_REPORT_LENGTH]) {
     uint32_t answer, wake_ups = 0, next;
     if (!twin_sound(t)) return report_unsound(report);
     if (call == ORDIZGUM_ADVANCE && (id | b | c | d) == 0) {
@@ -958,7 +959,7 @@ uint32_t ordizgum_sound(const uint8_t *image, size_t length) {
 }
 
 uint32_t ordizgum_call(uint8_t *image, size_t length, uint32_t call, uint32_t id, uint32_t a, uint32_t b, uint32_t c, uint32_t d,
-                       uint32_t report[5]) {
+                       uint32_t report[ORDIZGUM_REPORT_LENGTH]) {
     struct twin_table t;
     uint32_t answer;
     if (length != ORDIZGUM_IMAGE_LENGTH) return report_unsound(report);

@@ -8,6 +8,7 @@
 #ifndef TWIN_H
 #define TWIN_H
 
+#include "ordizgum.h"
 #include <stdint.h>
 
 enum {
@@ -21,7 +22,14 @@ enum {
 };
 
 /* The lists beside the ready lists, by their numbers; the last three are the first of a run, one for each object. */
-enum { TWIN_SLEEPING = 0, TWIN_STOPPED = 1, TWIN_OF_SEMAPHORES = 2, TWIN_OF_MUTEXES = 10, TWIN_OF_FLAGS = 14, TWIN_LISTS = 18 };
+enum {
+    TWIN_SLEEPING,
+    TWIN_STOPPED,
+    TWIN_OF_SEMAPHORES,
+    TWIN_OF_MUTEXES = TWIN_OF_SEMAPHORES + TWIN_SEMAPHORES,
+    TWIN_OF_FLAGS = TWIN_OF_MUTEXES + TWIN_MUTEXES,
+    TWIN_LISTS = TWIN_OF_FLAGS + TWIN_FLAGS
+};
 
 struct twin_thread {
     uint8_t created, base, current;
@@ -79,7 +87,8 @@ void twin_fresh(struct twin_table *t);
 int twin_sound(const struct twin_table *t);
 
 /* One call, done in place. Answers and fills the report: answer, chosen, clock, wake-ups, next wake-up. A refusal changes nothing. */
-uint32_t twin_call(struct twin_table *t, uint32_t call, uint32_t id, uint32_t a, uint32_t b, uint32_t c, uint32_t d, uint32_t report[5]);
+uint32_t twin_call(struct twin_table *t, uint32_t call, uint32_t id, uint32_t a, uint32_t b, uint32_t c, uint32_t d,
+                   uint32_t report[ORDIZGUM_REPORT_LENGTH]);
 
 /* The table from its image and back. Nothing is tested and no value is lost, so an unsound image makes an unsound table. */
 void twin_read(struct twin_table *t, const uint8_t *image);

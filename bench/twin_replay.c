@@ -66,12 +66,12 @@ static void write_lines(const char *end) {
 
 /* The call of one record, and its line. */
 static inline char *replay(const uint8_t *r, char *to) {
-    uint32_t report[5];
+    uint32_t report[ORDIZGUM_REPORT_LENGTH];
     twin_call(&table, r[2], r[3], get32(r + 4), get32(r + 8), get32(r + 12), get32(r + 16), report);
-    to = put_number(to, report[0], ' ');
-    to = put_number(to, report[1], ' ');
-    to = put_number(to, report[2], ' ');
-    return put_number(to, report[3], '\n');
+    to = put_number(to, report[ORDIZGUM_REPORT_ANSWER], ' ');
+    to = put_number(to, report[ORDIZGUM_REPORT_CHOSEN], ' ');
+    to = put_number(to, report[ORDIZGUM_REPORT_CLOCK], ' ');
+    return put_number(to, report[ORDIZGUM_REPORT_WAKE_UPS], '\n');
 }
 
 int main(int count, char **arguments) {

@@ -42,7 +42,7 @@ enum { REPORT_DUE = 1, DOOR_OPEN = 2 };       /* the bits of EVENTS */
 enum { SAMPLE_CLOCK = 0, SAMPLE_PERIOD = 60, READINGS_IN_REPORT = 3 };
 
 static uint8_t table[ORDIZGUM_IMAGE_LENGTH];
-static uint32_t report[5];
+static uint32_t report[ORDIZGUM_REPORT_LENGTH];
 
 /* A refusal is a mistake in this program; an unsound table is one in the memory that held it. Neither is slept over. */
 static uint32_t call(uint32_t number, uint32_t id, uint32_t a, uint32_t b, uint32_t c, uint32_t d) {

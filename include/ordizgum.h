@@ -87,6 +87,9 @@ extern "C" {
 #define ORDIZGUM_REPORT_WAKE_UPS 3     /* how many of an advance's ticks were wake-ups; 0 for every other call */
 #define ORDIZGUM_REPORT_NEXT_WAKE_UP 4 /* in how many ticks the next one is; 0: in none */
 
+/* How many places a report has: the array that a call is handed has room for so many numbers. */
+#define ORDIZGUM_REPORT_LENGTH 5
+
 /* The length of an image, ORDIZGUM_IMAGE_LENGTH. */
 uint32_t ordizgum_image_length(void);
 
@@ -100,11 +103,11 @@ uint32_t ordizgum_fresh(uint8_t *image, size_t length);
 uint32_t ordizgum_sound(const uint8_t *image, size_t length);
 
 /*
- * One call. Answers as above and writes answer, chosen, clock, wake-ups and next wake-up into `report`, always all five. A refusal leaves
+ * One call. Answers as above and writes answer, chosen, clock, wake-ups and next wake-up into `report`, always every place. A refusal leaves
  * every byte of the image. With answer 1 the others are ORDIZGUM_NOBODY, 0, 0, 0: that is no order to sleep.
  */
 uint32_t ordizgum_call(uint8_t *image, size_t length, uint32_t call, uint32_t id, uint32_t a, uint32_t b, uint32_t c, uint32_t d,
-                       uint32_t report[5]);
+                       uint32_t report[ORDIZGUM_REPORT_LENGTH]);
 
 /*
  * In how many ticks the next wake-up is, worked out from the image each time: 0 in `next[0]` means that there is none unless a call is

@@ -1,16 +1,21 @@
 //! Files of cases: images, each with a request, and what each case must give. A case is the image's length, the image,
-//! then call, id, a, b, c, d; its answer is 0 for sound or 1, the report's five numbers, and the image after. Every
-//! number but the image's own bytes takes four bytes, low byte first.
+//! then call, id, a, b, c, d; its answer is 0 for sound or 1, the report's numbers, and the image after. Every number
+//! but the image's own bytes takes four bytes, low byte first.
 
 mod maker;
 
 use crate::image;
 use crate::image::layout::word;
 use crate::sound;
-use crate::table::{Report, Request};
+use crate::table::{Report, Request, REPORT_NUMBERS, REQUEST_NUMBERS};
 pub use maker::Maker;
 use std::fmt;
 use std::io::{self, BufRead, Read, Write};
+
+pub const NUMBER_BYTES: usize = 4;
+pub const REQUEST_BYTES: usize = NUMBER_BYTES * REQUEST_NUMBERS;
+/// Of an answer without its image.
+pub const ANSWER_BYTES: usize = NUMBER_BYTES * (1 + REPORT_NUMBERS);
 
 /// How many cases there were.
 #[derive(Clone, Copy, PartialEq, Eq, Debug, Default)]
@@ -75,7 +80,7 @@ pub fn answers(input: &mut dyn BufRead, output: &mut dyn Write) -> io::Result<Su
 pub fn write_case(output: &mut dyn Write, image: &[u8], request: &Request) -> io::Result<()> {
     write_number(output, image.len() as u32)?;
     output.write_all(image)?;
-    for number in [request.call, request.id, request.a, request.b, request.c, request.d] {
+    for number in request.numbers() {
         write_number(output, number)?;
     }
     Ok(())
@@ -83,13 +88,7 @@ pub fn write_case(output: &mut dyn Write, image: &[u8], request: &Request) -> io
 
 fn write_answer(output: &mut dyn Write, sound: bool, report: &Report, after: &[u8]) -> io::Result<()> {
     write_number(output, if sound { 0 } else { 1 })?;
-    for number in [
-        report.answer,
-        report.chosen,
-        report.clock,
-        report.wake_ups,
-        report.next_wake_up,
-    ] {
+    for number in report.numbers() {
         write_number(output, number)?;
     }
     output.write_all(after)
@@ -113,13 +112,17 @@ impl File<'_> {
             return Ok(None);
         }
         self.case += 1;
-        self.part("length", 4).map(|bytes| Some(word(&bytes, 0)))
+        self.part("length", NUMBER_BYTES as u32)
+            .map(|bytes| Some(word(&bytes, 0)))
     }
 
     fn request(&mut self) -> io::Result<Request> {
-        let bytes = self.part("request", 24)?;
-        let [call, id, a, b, c, d] = [0, 4, 8, 12, 16, 20].map(|at| word(&bytes, at));
-        Ok(Request { call, id, a, b, c, d })
+        let bytes = self.part("request", REQUEST_BYTES as u32)?;
+        let mut numbers = [0; REQUEST_NUMBERS];
+        for (place, number) in numbers.iter_mut().enumerate() {
+            *number = word(&bytes, NUMBER_BYTES * place);
+        }
+        Ok(Request::of_numbers(numbers))
     }
 
     /// So many bytes of the case, or an error that names the part in which the file ends. No more memory is taken

@@ -108,8 +108,7 @@ impl Coverage {
     }
 
     fn pairs_where(&self, test: impl Fn(u64, bool) -> bool) -> Vec<(u32, u32)> {
-        let pairs = (0..CALLS).flat_map(|call| (0..ANSWERS).map(move |answer| (call, answer)));
-        pairs
+        pairs::all()
             .filter(|pair| test(self.of(*pair), unreachable(pair.0, pair.1).is_none()))
             .collect()
     }
@@ -270,6 +269,6 @@ mod tests {
         coverage.count(ADVANCE, answer::FULL);
         assert_eq!(coverage.impossible_pairs(), [(ADVANCE, answer::FULL)]);
         assert!(!coverage.complete());
-        assert_eq!(coverage.missing_pairs().len(), 112);
+        assert_eq!(coverage.missing_pairs(), coverage.pairs_where(|_, reachable| reachable));
     }
 }

@@ -1,4 +1,4 @@
-//! The table as 920 bytes (IMAGE.md): writing, reading, and a whole call on an image. An image of another length or
+//! The table as bytes (IMAGE.md): writing, reading, and a whole call on an image. An image of another length or
 //! one that isn't sound is answer 1 and stays as it is, byte for byte (01, The table; 01, Answers).
 
 pub mod layout;

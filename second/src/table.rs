@@ -32,6 +32,10 @@ pub const KIND_NOTHING: u32 = 0;
 pub const KIND_POST: u32 = 1;
 pub const KIND_SET_FLAGS: u32 = 2;
 
+/// How many numbers a request has, and how many a report.
+pub const REQUEST_NUMBERS: usize = 6;
+pub const REPORT_NUMBERS: usize = 5;
+
 /// One call with its fields. In a replay file `call` and `id` are bytes; elsewhere they may be any number.
 #[derive(Clone, Copy, PartialEq, Eq, Debug, Default)]
 pub struct Request {
@@ -43,6 +47,16 @@ pub struct Request {
     pub d: u32,
 }
 
+impl Request {
+    pub fn of_numbers([call, id, a, b, c, d]: [u32; REQUEST_NUMBERS]) -> Request {
+        Request { call, id, a, b, c, d }
+    }
+
+    pub fn numbers(&self) -> [u32; REQUEST_NUMBERS] {
+        [self.call, self.id, self.a, self.b, self.c, self.d]
+    }
+}
+
 /// What a call gives beside the next table.
 #[derive(Clone, Copy, PartialEq, Eq, Debug, Default)]
 pub struct Report {
@@ -52,6 +66,12 @@ pub struct Report {
     pub clock: u32,
     pub wake_ups: u32,
     pub next_wake_up: u32,
+}
+
+impl Report {
+    pub fn numbers(&self) -> [u32; REPORT_NUMBERS] {
+        [self.answer, self.chosen, self.clock, self.wake_ups, self.next_wake_up]
+    }
 }
 
 /// An absent thread is `Thread::default()`: all zero.
@@ -146,7 +166,7 @@ pub enum ListName {
 }
 
 impl ListName {
-    /// All 26 lists of a table.
+    /// All lists of a table.
     pub fn all() -> impl Iterator<Item = ListName> {
         (0..PRIORITIES)
             .map(ListName::Ready)

@@ -1,5 +1,7 @@
 //! The built program from outside: what it prints, where, and with which exit status.
 
+use second::cases::{ANSWER_BYTES, NUMBER_BYTES, REQUEST_BYTES};
+use second::image::LENGTH;
 use std::fs;
 use std::io::Write;
 use std::path::{Path, PathBuf};
@@ -175,7 +177,7 @@ fn a_closed_pipe_ends_the_program_quietly() {
 #[test]
 fn a_fresh_image_is_sound_and_so_is_the_one_after_a_replay() {
     let fresh = second(&["image", "fresh"]);
-    assert_eq!((fresh.stdout.len(), fresh.status.code()), (920, Some(0)));
+    assert_eq!((fresh.stdout.len(), fresh.status.code()), (LENGTH, Some(0)));
     assert!(fresh
         .stdout
         .iter()
@@ -186,14 +188,14 @@ fn a_fresh_image_is_sound_and_so_is_the_one_after_a_replay() {
 
     let replay = written("after.replay", &example());
     let after = second(&["image", "after", replay.to_str().unwrap()]);
-    assert_eq!((after.stdout.len(), after.stdout[0], after.stdout[5]), (920, 5, 3));
+    assert_eq!((after.stdout.len(), after.stdout[0], after.stdout[5]), (LENGTH, 5, 3));
     let path = written("after.image", &after.stdout);
     assert_prints(&second(&["image", "check", path.to_str().unwrap()]), "sound\n");
 }
 
 #[test]
 fn an_image_that_is_not_sound_is_no_failure_of_the_program() {
-    let path = written("short.image", &[0; 919]);
+    let path = written("short.image", &[0; LENGTH - 1]);
     let output = second(&["image", "check", path.to_str().unwrap()]);
     assert_eq!((text(&output.stderr), output.status.code()), ("", Some(0)));
     assert!(!output.stdout.is_empty() && text(&output.stdout) != "sound\n");
@@ -225,7 +227,8 @@ fn every_profile_named_generates_a_file_of_its_own() {
     assert!((1..files.len()).all(|later| !files[..later].contains(&files[later])));
 }
 
-/// An answer is one number shorter than its case: it has no length. A file cut short is named with status 1.
+/// Beside its image a case has a length and a request, an answer soundness and report. A file cut short is named with
+/// status 1.
 #[test]
 fn cases_and_their_answers() {
     let cases = second(&["image", "cases", "--seed", "7", "--count", "20"]);
@@ -233,7 +236,8 @@ fn cases_and_their_answers() {
     let path = written("cases.bin", &cases.stdout);
     let answers = second(&["image", "answers", path.to_str().unwrap()]);
     assert!(answers.status.success() && text(&answers.stderr).contains("20 cases"));
-    assert_eq!(answers.stdout.len(), cases.stdout.len() - 20 * 4);
+    let images = cases.stdout.len() - 20 * (NUMBER_BYTES + REQUEST_BYTES);
+    assert_eq!(answers.stdout.len(), images + 20 * ANSWER_BYTES);
 
     let path = written("short cases.bin", &cases.stdout[..cases.stdout.len() - 1]);
     let answers = second(&["image", "answers", path.to_str().unwrap()]);

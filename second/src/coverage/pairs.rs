@@ -1,66 +1,85 @@
 //! Which answers each call can give at all: worked out from 01, Answers and Calls.
 //! Call 0 stands for every number that isn't in the list of calls. A pair that can't occur has its reason.
 
-/// The calls counted: 0 for every number not in the list, then 1 to 22.
-pub const CALLS: u32 = 23;
-/// The answers counted: 0 to 10.
-pub const ANSWERS: u32 = 11;
+use crate::calls::answer::{NOT_SOUND, NO_SUCH_CALL, WAITS};
+use crate::calls::number::*;
+
+/// The calls counted: 0 for every number not in the list, then those of the list.
+pub const CALLS: u32 = LAST + 1;
+/// The answers counted, 0 among them.
+pub const ANSWERS: u32 = WAITS + 1;
+
+/// Every pair of call and answer.
+pub fn all() -> impl Iterator<Item = (u32, u32)> {
+    (0..CALLS).flat_map(|call| (0..ANSWERS).map(move |answer| (call, answer)))
+}
+
+/// Calls of the list: these, or all the others.
+enum Calls {
+    Only(&'static [u32]),
+    AllBut(&'static [u32]),
+}
+
+impl Calls {
+    fn contain(&self, call: u32) -> bool {
+        match self {
+            Calls::Only(calls) => calls.contains(&call),
+            Calls::AllBut(calls) => !calls.contains(&call),
+        }
+    }
+}
+
+use Calls::{AllBut, Only};
 
 /// An answer, the calls of the list that can give it, and why no other call of the list can.
 struct Rule {
-    calls: &'static [u32],
+    calls: Calls,
     others: &'static str,
 }
 
 const RULES: [Rule; ANSWERS as usize] = [
     Rule {
-        calls: &[
-            1, 2, 3, 4, 5, 7, 8, 9, 10, 11, 12, 13, 14, 15, 16, 17, 18, 19, 20, 21, 22,
-        ],
+        calls: AllBut(&[SLEEP]),
         others: "an accepted sleep is 10, the caller sleeps",
     },
     Rule {
-        calls: &[
-            1, 2, 3, 4, 5, 6, 7, 8, 9, 10, 11, 12, 13, 14, 15, 16, 17, 18, 19, 20, 21, 22,
-        ],
+        calls: AllBut(&[]),
         others: "",
     },
     Rule {
-        calls: &[],
+        calls: Only(&[]),
         others: "the number is in the list",
     },
     Rule {
-        calls: &[1, 2, 3, 7, 8, 9, 10, 11, 12, 13, 14, 15, 16, 17, 18, 19, 20],
+        calls: AllBut(&[EXIT, YIELD, SLEEP, SCHEDULING, ADVANCE]),
         others: "the call takes no id: one that isn't 0 is 4",
     },
     Rule {
-        calls: &[
-            1, 2, 3, 4, 5, 6, 7, 8, 9, 10, 11, 12, 13, 14, 15, 16, 17, 18, 19, 20, 21, 22,
-        ],
+        calls: AllBut(&[]),
         others: "",
     },
     Rule {
-        calls: &[1, 9, 12, 15],
+        calls: Only(&[CREATE_THREAD, CREATE_SEMAPHORE, CREATE_MUTEX, CREATE_FLAGS]),
         others: "no create, and timers are always there",
     },
     Rule {
-        calls: &[4, 5, 6, 10, 13, 14, 16],
+        calls: Only(&[EXIT, YIELD, SLEEP, PEND, CLAIM, RELEASE, WAIT]),
         others: "needs no running thread",
     },
     Rule {
-        calls: &[3, 4, 5, 6, 10, 13, 16],
+        calls: Only(&[STOP, EXIT, YIELD, SLEEP, PEND, CLAIM, WAIT]),
         others: "goes through with scheduling off",
     },
     Rule {
-        calls: &[2, 3, 4, 14],
+        calls: Only(&[START, STOP, EXIT, RELEASE]),
         others: "names no wrong state",
     },
     Rule {
-        calls: &[11, 13],
+        calls: Only(&[POST, CLAIM]),
         others: "neither a post nor a claim, so nothing is full",
     },
     Rule {
-        calls: &[6, 10, 13, 16],
+        calls: Only(&[SLEEP, PEND, CLAIM, WAIT]),
         others: "never makes its caller wait or sleep",
     },
 ];
@@ -69,12 +88,12 @@ const RULES: [Rule; ANSWERS as usize] = [
 pub fn unreachable(call: u32, answer: u32) -> Option<&'static str> {
     if call == 0 {
         return match answer {
-            1 | 2 => None,
+            NOT_SOUND | NO_SUCH_CALL => None,
             _ => Some("a number not in the list is 2 whatever else is wrong"),
         };
     }
     let rule = &RULES[answer as usize];
-    if rule.calls.contains(&call) {
+    if rule.calls.contain(call) {
         None
     } else {
         Some(rule.others)
@@ -87,8 +106,7 @@ mod tests {
 
     #[test]
     fn every_unreachable_pair_has_a_reason() {
-        let pairs = (0..CALLS).flat_map(|call| (0..ANSWERS).map(move |answer| (call, answer)));
-        let reasons: Vec<&str> = pairs.filter_map(|(call, answer)| unreachable(call, answer)).collect();
+        let reasons: Vec<&str> = all().filter_map(|(call, answer)| unreachable(call, answer)).collect();
         assert!(reasons.iter().all(|reason| !reason.is_empty()));
         assert_eq!((CALLS * ANSWERS) as usize - reasons.len(), 112);
     }

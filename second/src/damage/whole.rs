@@ -20,7 +20,7 @@ pub fn damage(clause: Clause, draft: &mut Draft) -> Option<()> {
     }
 }
 
-/// Zeros behind the end, where the image grows: a reader that looked at the first 920 bytes alone would be content.
+/// Zeros behind the end, where the image grows: a reader that looked no further than an image's end would be content.
 pub fn wrong_length(draft: &mut Draft) -> Option<()> {
     let random = draft.between(0, 2_000) as usize;
     let length = draft.pick(&[0, 1, 5, 6, LENGTH - 1, LENGTH + 1, 2 * LENGTH, 4_096, random])?;

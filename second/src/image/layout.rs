@@ -1,9 +1,10 @@
-//! Where each field of the table stands in the image's 920 bytes: IMAGE.md's tables as numbers, and the reading and
+//! Where each field of the table stands in the image's bytes: IMAGE.md's tables as numbers, and the reading and
 //! writing of one field. Numbers of more than one byte stand low byte first.
 
-use crate::table::ListName;
+use crate::table::{ListName, FLAG_OBJECTS, MUTEXES, SEMAPHORES};
 
-pub const LENGTH: usize = 920;
+/// The lists behind the ready lists are the last part.
+pub const LENGTH: usize = OTHER_LISTS + OTHER_LIST_BYTES * OTHER_LIST_COUNT;
 
 pub const CLOCK: usize = 0;
 pub const SCHEDULING: usize = 4;
@@ -56,6 +57,14 @@ const READY_IDS: usize = 486;
 const OTHER_LISTS: usize = 614;
 const OTHER_LIST_BYTES: usize = 17;
 
+/// The numbers of the lists behind the ready lists; of those that objects have, the number of object 0's.
+const SLEEP: usize = 0;
+const STOPPED: usize = 1;
+const OF_SEMAPHORES: usize = 2;
+const OF_MUTEXES: usize = OF_SEMAPHORES + SEMAPHORES;
+const OF_FLAGS: usize = OF_MUTEXES + MUTEXES;
+pub const OTHER_LIST_COUNT: usize = OF_FLAGS + FLAG_OBJECTS;
+
 pub fn thread(id: usize) -> usize {
     6 + THREAD_BYTES * id
 }
@@ -96,11 +105,11 @@ pub fn list_ids(name: ListName) -> usize {
 fn other_list(name: ListName) -> usize {
     match name {
         ListName::Ready(_) => unreachable!("the ready lists stand apart"),
-        ListName::Sleep => 0,
-        ListName::Stopped => 1,
-        ListName::SemaphoreWait(id) => 2 + id,
-        ListName::MutexWait(id) => 10 + id,
-        ListName::FlagsWait(id) => 14 + id,
+        ListName::Sleep => SLEEP,
+        ListName::Stopped => STOPPED,
+        ListName::SemaphoreWait(id) => OF_SEMAPHORES + id,
+        ListName::MutexWait(id) => OF_MUTEXES + id,
+        ListName::FlagsWait(id) => OF_FLAGS + id,
     }
 }
 

@@ -120,7 +120,7 @@ const COUNT: usize = 89;
 
 #[rustfmt::skip]
 const ENTRIES: [Entry; COUNT] = [
-    Entry(ImageLength, 0, "image-length", "the image hasn't 920 bytes"),
+    Entry(ImageLength, 0, "image-length", "the image is too short or too long"),
 
     Entry(SchedulingRange, 1, "scheduling-range", "scheduling is neither 0 nor 1"),
     Entry(ChosenRange, 1, "chosen-range", "chosen is neither a thread's id nor 255"),

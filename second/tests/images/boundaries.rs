@@ -2,6 +2,7 @@
 //! offsets are written anew from IMAGE.md.
 
 use crate::sample;
+use second::image::layout::{LENGTH, OTHER_LIST_COUNT};
 use second::sound;
 
 /// Bytes to write, each with its offset.
@@ -143,7 +144,7 @@ fn past_the_end_of_each_list_are_zeros() {
             check(byte(486 + 16 * priority + place, id), &["ready-past-end"]);
         }
     }
-    for number in 0..18 {
+    for number in 0..OTHER_LIST_COUNT {
         let family = match number {
             0 => 0,
             1 => 1,
@@ -491,7 +492,7 @@ fn what_is_left_of_a_quantum() {
 
 /// An image in which one list holds these threads, all created, of priority 0, and nothing else is there.
 fn lone_list(list: Change, threads: &[u8], fields: &[(usize, u8)]) -> Vec<u8> {
-    let mut image = changed(vec![0; 920], &byte(5, 255));
+    let mut image = changed(vec![0; LENGTH], &byte(5, 255));
     for id in threads {
         image[thread(usize::from(*id), 0)] = 1;
         for (field, number) in fields {

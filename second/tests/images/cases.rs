@@ -1,8 +1,9 @@
 //! Files of cases and their answers, by hand and generated.
 
 use crate::sample;
-use second::cases::{answers, cases, Summary};
-use second::image;
+use second::calls::number::LAST;
+use second::cases::{answers, cases, Summary, ANSWER_BYTES, NUMBER_BYTES, REQUEST_BYTES};
+use second::image::{self, LENGTH};
 use second::sound::{self, Clause};
 use second::table::Table;
 use std::collections::HashSet;
@@ -12,12 +13,18 @@ fn numbers(numbers: &[u32]) -> Vec<u8> {
     numbers.iter().flat_map(|number| number.to_le_bytes()).collect()
 }
 
+/// The length before an image.
+fn length(image: &[u8]) -> Vec<u8> {
+    numbers(&[image.len() as u32])
+}
+
 fn answered(file: &[u8]) -> io::Result<(Vec<u8>, Summary)> {
     let mut output = Vec::new();
     let summary = answers(&mut &file[..], &mut output)?;
     Ok((output, summary))
 }
 
+/// The one place where the form of a case and of its answer stand in plain numbers.
 #[test]
 fn the_answers_to_cases_by_hand() {
     let fresh = image::write(&Table::fresh());
@@ -26,15 +33,15 @@ fn the_answers_to_cases_by_hand() {
     let mut file = Vec::new();
     let mut expected = Vec::new();
 
-    file.extend([numbers(&[920]), fresh.to_vec(), numbers(&[22, 0, 0x0102_0304, 0, 0, 0])].concat());
+    file.extend([length(&fresh), fresh.to_vec(), numbers(&[22, 0, 0x0102_0304, 0, 0, 0])].concat());
     let mut after = fresh.to_vec();
     after[..4].copy_from_slice(&[4, 3, 2, 1]);
     expected.extend([numbers(&[0, 0, 255, 0x0102_0304, 0, 0]), after].concat());
 
-    file.extend([numbers(&[920]), fresh.to_vec(), numbers(&[258, 256, 0, 0, 0, 0])].concat());
+    file.extend([length(&fresh), fresh.to_vec(), numbers(&[258, 256, 0, 0, 0, 0])].concat());
     expected.extend([numbers(&[0, 2, 255, 0, 0, 0]), fresh.to_vec()].concat());
 
-    file.extend([numbers(&[920]), unsound.clone(), numbers(&[22, 0, 1, 0, 0, 0])].concat());
+    file.extend([length(&unsound), unsound.clone(), numbers(&[22, 0, 1, 0, 0, 0])].concat());
     expected.extend([numbers(&[1, 1, 255, 0, 0, 0]), unsound].concat());
 
     file.extend([numbers(&[0]), numbers(&[22, 0, 1, 0, 0, 0])].concat());
@@ -61,17 +68,18 @@ fn the_answers_to_cases_by_hand() {
 #[test]
 fn a_file_that_is_cut_off_is_an_error_that_says_where() {
     let fresh = image::write(&Table::fresh());
-    let case = [numbers(&[920]), fresh.to_vec(), numbers(&[22, 0, 1, 0, 0, 0])].concat();
+    let case = [length(&fresh), fresh.to_vec(), vec![0; REQUEST_BYTES]].concat();
     let file = [case.clone(), case].concat();
+    let (whole_file, image_end, case_end) = (file.len(), NUMBER_BYTES + LENGTH, file.len() / 2);
     for (end, part, number) in [
         (1, "length", 1),
-        (3, "length", 1),
-        (4, "image", 1),
-        (923, "image", 1),
-        (924, "request", 1),
-        (947, "request", 1),
-        (950, "length", 2),
-        (1_895, "request", 2),
+        (NUMBER_BYTES - 1, "length", 1),
+        (NUMBER_BYTES, "image", 1),
+        (image_end - 1, "image", 1),
+        (image_end, "request", 1),
+        (case_end - 1, "request", 1),
+        (case_end + 2, "length", 2),
+        (whole_file - 1, "request", 2),
     ] {
         let error = answered(&file[..end]).unwrap_err();
         assert_eq!(error.kind(), io::ErrorKind::InvalidData);
@@ -88,12 +96,12 @@ fn split(mut file: &[u8]) -> Vec<(&[u8], Vec<u32>)> {
     let mut split = Vec::new();
     while !file.is_empty() {
         let length = u32::from_le_bytes([file[0], file[1], file[2], file[3]]) as usize;
-        let (image, rest) = file[4..].split_at(length);
-        let request = rest[..24]
-            .chunks(4)
+        let (image, rest) = file[NUMBER_BYTES..].split_at(length);
+        let request = rest[..REQUEST_BYTES]
+            .chunks(NUMBER_BYTES)
             .map(|four| u32::from_le_bytes([four[0], four[1], four[2], four[3]]));
         split.push((image, request.collect()));
-        file = &rest[24..];
+        file = &rest[REQUEST_BYTES..];
     }
     split
 }
@@ -115,8 +123,8 @@ fn generated_cases_hold_every_answer_and_every_clause() {
     let mut clauses = HashSet::new();
     let mut wide = 0;
     for (image, request) in split(&file) {
-        let answer = u32::from(rest[4]);
-        let after = &rest[24..24 + image.len()];
+        let answer = u32::from(rest[NUMBER_BYTES]);
+        let after = &rest[ANSWER_BYTES..ANSWER_BYTES + image.len()];
         let broken = sound::broken(image);
         assert_eq!(sound::broken(after), broken, "{:?}", request);
         assert_eq!(
@@ -130,11 +138,11 @@ fn generated_cases_hold_every_answer_and_every_clause() {
         }
         wide += u32::from(request[0] > 255 || request[1] > 255);
         clauses.extend(broken);
-        rest = &rest[24 + image.len()..];
+        rest = &rest[ANSWER_BYTES + image.len()..];
     }
     assert!(rest.is_empty());
     assert_eq!(answers, (0..=10).collect());
-    assert_eq!(done, (1..=22).collect());
+    assert_eq!(done, (1..=LAST).collect());
     assert_eq!(clauses, Clause::ALL.into_iter().collect());
     assert!(wide > 20, "{} calls or ids beyond a byte", wide);
 }

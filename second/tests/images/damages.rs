@@ -89,7 +89,7 @@ fn spoilt_images_are_judged() {
     for_images(4, 200, |image| {
         for kind in Spoil::ALL {
             let spoilt = spoil(kind, image, &mut random);
-            assert_eq!(spoilt.len() == 920, kind != Spoil::WrongLength);
+            assert_eq!(spoilt.len() == image::LENGTH, kind != Spoil::WrongLength);
             match image::read(&spoilt) {
                 None => unsound += 1,
                 Some(table) => {

@@ -8,7 +8,7 @@ use second::table::{Action, Table};
 
 #[test]
 fn a_fresh_image_is_zero_but_for_the_chosen_thread() {
-    let mut expected = [0; 920];
+    let mut expected = [0; LENGTH];
     expected[5] = 255;
     assert_eq!(LENGTH, 920);
     assert_eq!(image::write(&Table::fresh()), expected);
@@ -18,7 +18,7 @@ fn a_fresh_image_is_zero_but_for_the_chosen_thread() {
 #[test]
 fn the_sample_by_hand_is_written_and_read() {
     let bytes = sample::bytes();
-    assert_eq!(bytes.len(), 920);
+    assert_eq!(bytes.len(), LENGTH);
     assert_eq!(sound::broken(&bytes), []);
     assert_eq!(image::write(&sample::table()).to_vec(), bytes);
     assert_eq!(image::read(&bytes), Some(sample::table()));
@@ -30,7 +30,7 @@ fn written(change: impl Fn(&mut Table)) -> Vec<(usize, u8)> {
     let fresh = image::write(&table);
     change(&mut table);
     let changed = image::write(&table);
-    (0..920)
+    (0..LENGTH)
         .filter(|at| fresh[*at] != changed[*at])
         .map(|at| (at, changed[at]))
         .collect()

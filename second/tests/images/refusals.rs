@@ -1,7 +1,8 @@
 //! What is refused with answer 1: it keeps every byte, whatever the request, and reports 255, 0, 0, 0.
 
 use crate::sample;
-use second::image;
+use second::calls::number::{ADVANCE, CREATE_THREAD, LAST, SCHEDULING, START};
+use second::image::{self, LENGTH};
 use second::random::Random;
 use second::sound::{self, Clause};
 use second::table::{Report, Request, Table};
@@ -25,15 +26,15 @@ fn requests() -> Vec<Request> {
         d: 0,
     };
     let mut requests = vec![
-        plain(22, 5),
-        plain(21, 1),
-        plain(21, 9),
+        plain(ADVANCE, 5),
+        plain(SCHEDULING, 1),
+        plain(SCHEDULING, 9),
         plain(0, 0),
-        plain(23, 0),
+        plain(LAST + 1, 0),
         plain(u32::MAX, 0),
     ];
     requests.push(Request {
-        call: 1,
+        call: CREATE_THREAD,
         id: 15,
         a: 3,
         b: 4,
@@ -41,7 +42,7 @@ fn requests() -> Vec<Request> {
         d: 0,
     });
     requests.push(Request {
-        call: 1,
+        call: CREATE_THREAD,
         id: 16,
         a: 3,
         b: 4,
@@ -63,7 +64,8 @@ fn assert_refused(bytes: &[u8], what: &str) {
 #[test]
 fn another_length_is_refused_and_kept() {
     let sample = sample::bytes();
-    for length in [0, 1, 4, 5, 6, 477, 614, 918, 919, 921, 922, 1_840, 4_096, 5_000] {
+    let near = [LENGTH - 2, LENGTH - 1, LENGTH + 1, LENGTH + 2, 2 * LENGTH];
+    for length in [0, 1, 4, 5, 6, 477, 614, 4_096, 5_000].into_iter().chain(near) {
         let mut bytes = sample.clone();
         bytes.resize(length, 0);
         assert_eq!(sound::broken(&bytes), [Clause::ImageLength]);
@@ -75,13 +77,20 @@ fn another_length_is_refused_and_kept() {
 
 #[test]
 fn an_unsound_image_is_refused_and_kept() {
-    for (at, byte) in [(4, 2), (5, 16), (6, 2), (6 + 17 * 15 + 16, 1), (318, 7), (919, 1)] {
+    for (at, byte) in [
+        (4, 2),
+        (5, 16),
+        (6, 2),
+        (6 + 17 * 15 + 16, 1),
+        (318, 7),
+        (LENGTH - 1, 1),
+    ] {
         let mut bytes = sample::bytes();
         bytes[at] = byte;
         assert_refused(&bytes, &format!("byte {} as {}", at, byte));
     }
-    assert_refused(&[0; 920], "all zero: somebody chosen and nobody ready");
-    assert_refused(&[255; 920], "all 255");
+    assert_refused(&[0; LENGTH], "all zero: somebody chosen and nobody ready");
+    assert_refused(&[255; LENGTH], "all 255");
 }
 
 #[test]
@@ -101,9 +110,9 @@ fn a_sound_image_is_called_like_its_table() {
 fn a_fresh_image_takes_the_documents_whole_example() {
     let mut bytes = image::write(&Table::fresh());
     for (call, id, a, expected) in [
-        (1, 3, 4, (0, 255, 0, 0)),
-        (2, 3, 0, (0, 3, 0, 0)),
-        (22, 0, 5, (0, 3, 5, 0)),
+        (CREATE_THREAD, 3, 4, (0, 255, 0, 0)),
+        (START, 3, 0, (0, 3, 0, 0)),
+        (ADVANCE, 0, 5, (0, 3, 5, 0)),
     ] {
         let request = Request {
             call,
@@ -115,7 +124,7 @@ fn a_fresh_image_takes_the_documents_whole_example() {
         assert_eq!((report.answer, report.chosen, report.clock, report.wake_ups), expected);
         assert_eq!(report.next_wake_up, 0);
     }
-    let mut expected = [0; 920];
+    let mut expected = [0; LENGTH];
     expected[0] = 5;
     expected[5] = 3;
     expected[6 + 17 * 3..6 + 17 * 3 + 3].copy_from_slice(&[1, 4, 4]);
@@ -129,23 +138,23 @@ fn a_fresh_image_takes_the_documents_whole_example() {
 fn every_byte_of_the_sample_with_every_value() {
     let sample = sample::bytes();
     let tick = Request {
-        call: 22,
+        call: ADVANCE,
         a: 1,
         ..Request::default()
     };
     let on = Request {
-        call: 21,
+        call: SCHEDULING,
         a: 1,
         ..Request::default()
     };
     let mut sound = 0;
-    for at in 0..920 {
+    for at in 0..LENGTH {
         for value in 0..=255 {
             let mut bytes = sample.clone();
             bytes[at] = value;
             let before = bytes.clone();
             let is_sound = sound::is_sound(&bytes);
-            sound += u32::from(is_sound);
+            sound += usize::from(is_sound);
             for request in [tick, on] {
                 assert_eq!(
                     image::call(&mut bytes, &request).answer,
@@ -159,7 +168,7 @@ fn every_byte_of_the_sample_with_every_value() {
             assert!(is_sound || bytes == before, "byte {} as {}", at, value);
         }
     }
-    assert!(sound > 920 && sound < 60_000, "{} are sound", sound);
+    assert!(sound > LENGTH && sound < 60_000, "{} are sound", sound);
 }
 
 #[test]
@@ -167,7 +176,7 @@ fn any_bytes_of_any_length_are_judged() {
     let mut random = Random::new(1);
     for _ in 0..10_000 {
         let length = if random.percent(90) {
-            920
+            LENGTH
         } else {
             random.between(0, 2_000) as usize
         };
@@ -177,7 +186,7 @@ fn any_bytes_of_any_length_are_judged() {
         let report = image::call(
             &mut after,
             &Request {
-                call: 22,
+                call: ADVANCE,
                 id: 0,
                 a: 1,
                 b: 0,

@@ -1,6 +1,7 @@
 //! A sound table with something in every part of it, made by hand twice: as a table, and as bytes laid out part after
 //! part in the order of IMAGE.md.
 
+use second::image::layout::OTHER_LIST_COUNT;
 use second::table::{Action, Flags, Mutex, Semaphore, Table, Thread, Timer};
 
 /// A thread's fields in the order of its record.
@@ -65,7 +66,7 @@ const TIMERS: [TimerFields; 8] = [
 const READY: [&[u8]; 8] = [&[2], &[], &[], &[], &[0, 1], &[], &[], &[3]];
 
 /// Sleep, stopped, then the wait lists of eight semaphores, four mutexes, four flag objects.
-const OTHER_LISTS: [&[u8]; 18] = [
+const OTHER_LISTS: [&[u8]; OTHER_LIST_COUNT] = [
     &[5, 4],
     &[6],
     &[],
