@@ -1,4 +1,5 @@
-// The order of the answers, in one place (01, Answers): a call marks what is due, and the lowest number is given.
+// The order of the answers (01, Answers): a call marks what is due, and the lowest number is given. Four calls answer 3, and one 4, by a test
+// of their own before they come here, where what they test next asks for it.
 ghost use mathlib.Core.Path.{_≡_};
 ghost use mathlib.Core.Bool.{false};
 ghost use Rattle.model.specs.Answers.{first-due};
