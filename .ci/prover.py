@@ -21,6 +21,8 @@ from sources import TOP
 NOT_FOUND = ("does not follow from what it read", "no proof of", "does not close")
 NOT_SHOWN = ("expected type", "the two types", "the two values", "give a proof of that as the last argument")
 LEFT = re.compile(r"`(?:returns|loop-)")
+# But where the two types are only places in the walk through a function, the proof goes by another program.
+PLACES = re.compile(r"expected type `(?:tie\.|\S*\.(?:Tie|Lts)\.)[\w-]+`")
 # What only tells that something else failed before.
 CONSEQUENCE = "so this cannot be checked"
 
@@ -59,7 +61,7 @@ def failing_fact(errors):
     """Of the errors of one function or file, the one about a fact that makes the first one count, or nothing where the first is a misfit."""
     if any(word in errors[0] for word in NOT_FOUND):
         return errors[0]
-    if errors[0].startswith(("`Inv-", "`μ-")) or not any(word in errors[0] for word in NOT_SHOWN):
+    if errors[0].startswith(("`Inv-", "`μ-")) or PLACES.search(errors[0]) or not any(word in errors[0] for word in NOT_SHOWN):
         return None
     left = (error for error in errors if LEFT.match(error) and any(word in error for word in NOT_FOUND + NOT_SHOWN))
     return next(left, None)
