@@ -16,13 +16,13 @@ import threading
 
 from sources import TOP
 
-# What the prover says of a fact that its own search or arithmetic doesn't find to hold, and of one that isn't what the proof shows. The second
-# counts where it is about what the function leaves, or where that fails as well: what a callee asks may still hold, shown in another way.
+# What the prover says of a fact that its own search or arithmetic doesn't find to hold, and of one that isn't what the proof shows.
 NOT_FOUND = ("does not follow from what it read", "no proof of", "does not close")
 NOT_SHOWN = ("expected type", "the two types", "the two values", "give a proof of that as the last argument")
+# No facts: a loop's invariant or measure that no longer fits its variables, and two types that are only places in the walk through a function.
+UNFIT = re.compile(r"`(?:Inv-|μ-)|(?s:.*)expected type `(?:tie\.|\S*\.(?:Tie|Lts)\.)[\w-]+`")
+# What a function leaves, and what a turn of its loop does.
 LEFT = re.compile(r"`(?:returns|loop-)")
-# But where the two types are only places in the walk through a function, the proof goes by another program.
-PLACES = re.compile(r"expected type `(?:tie\.|\S*\.(?:Tie|Lts)\.)[\w-]+`")
 # What only tells that something else failed before.
 CONSEQUENCE = "so this cannot be checked"
 
@@ -57,14 +57,18 @@ class Said:
         return lines[0][:300] if lines else "nothing was said"
 
 
+def is_about_a_fact(error):
+    return any(word in error for word in NOT_FOUND) or any(word in error for word in NOT_SHOWN) and not UNFIT.match(error)
+
+
 def failing_fact(errors):
-    """Of the errors of one function or file, the one about a fact that makes the first one count, or nothing where the first is a misfit."""
+    """Of the errors of one function, the one about a fact that makes the first one count, or nothing where the first is a misfit. Stricter than for
+    one error: what isn't shown of something that is asked on the way might still hold, and counts where what is left fails as well."""
     if any(word in errors[0] for word in NOT_FOUND):
         return errors[0]
-    if errors[0].startswith(("`Inv-", "`μ-")) or PLACES.search(errors[0]) or not any(word in errors[0] for word in NOT_SHOWN):
+    if not is_about_a_fact(errors[0]):
         return None
-    left = (error for error in errors if LEFT.match(error) and any(word in error for word in NOT_FOUND + NOT_SHOWN))
-    return next(left, None)
+    return next((error for error in errors if LEFT.match(error) and is_about_a_fact(error)), None)
 
 
 # The name of that folder, once it is known.

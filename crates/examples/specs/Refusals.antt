@@ -1,8 +1,10 @@
 -- Refusals at the edges: the two unmarked examples of 01, and cases that tell apart two ways to read it (docs/DECISIONS.md): ranges,
 -- unused fields, and which of several faults is answered.
 use mathlib.Core.List.{List, [], _∷_}
+use Prim.Native.Nat.{suc}
 use Rattle.model.specs.State.{fresh}
 use Rattle.model.specs.Parts.{with-clock, with-chosen, alter-mutex, with-owner}
+use Rattle.model.specs.Calls.{call-count}
 use Rattle.model.specs.Promises.{run}
 use Rattle.examples.specs.Asking.{ask, create-thread, start, stop, exit, yield, sleep, set-priority, set-quantum, create-semaphore, pend, post, create-mutex, claim, release, create-flags, wait, set, clear, start-timer, stop-timer, scheduling, advance}
 use Rattle.examples.specs.Probes.{Case, _is_, _gives_then_, end, answer, chosen, clock, wakeups, next, current, quantum, left, result, delivered, count, owner, depth, word, list-length, list-at}
@@ -34,7 +36,7 @@ refusals =
       from = with-clock 77 fresh;
       steps =
           ask 0 300 9 9 9 9 gives answer is 2 ∷ clock is 77 ∷ [] then
-          ask 23 0 0 0 0 0 gives answer is 2 ∷ [] then
+          ask (suc call-count) 0 0 0 0 0 gives answer is 2 ∷ [] then
           ask 257 0 4 0 0 0 gives answer is 2 ∷ [] then
           end;
     }

@@ -1,6 +1,8 @@
 // The table (01, The table). Every field is a raw number: any bytes make a table, and whether it is a sound one is a test of
 // its own. The ids of the ready lists stand beside the table, as `[[u8; 16]; 8]`; it holds only how many there are of each.
 
+use crate::lists::LIST_COUNT;
+
 // How the choice of no thread is written.
 pub const NOBODY: u8 = 255;
 
@@ -64,5 +66,5 @@ pub struct Table {
     pub flags: [Flags; 4],
     pub timers: [Timer; 8],
     pub lengths: [u8; 8],
-    pub waits: [IdList; 18],
+    pub waits: [IdList; LIST_COUNT],
 }
