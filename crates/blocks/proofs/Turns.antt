@@ -8,7 +8,7 @@ use lib.ListN.{length, drop}
 use Rattle.sequences.specs.Bytes.{flat}
 use Rattle.sequences.proofs.EndToEnd.{flat-one}
 use Rattle.model.specs.declared.requests.Request.{Request}
-use Rattle.model.specs.Layout.{Laid}
+use Rattle.model.specs.Before.{Laid}
 use Rattle.model.specs.Replay.{record-length, request-of, bad-record, line-of}
 use Rattle.model.specs.Stored.{Stored, called}
 use Rattle.records.specs.declared.Record.the-variants.{Call, Bad}

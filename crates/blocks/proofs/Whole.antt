@@ -11,7 +11,7 @@ use Rattle.sequences.proofs.EndToEnd.{flat-append}
 use Rattle.model.specs.declared.answers.Report.{Report}
 use Rattle.model.specs.State.{State, fresh}
 use Rattle.model.specs.Kernel.{call}
-use Rattle.model.specs.Layout.{fresh-table, fresh-rows}
+use Rattle.model.specs.Before.{fresh-table, fresh-rows}
 use Rattle.model.specs.Replay.{record-length, request-of, starts-with-record, Line, bad-record, line-of, lines-from, replay}
 use Rattle.model.specs.Stored.{Stored, seen, is-sound, kept}
 use Rattle.table.proofs.Stored.{view-laid}

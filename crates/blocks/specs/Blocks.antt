@@ -5,7 +5,7 @@ use mathlib.Core.Bool.{Bool, true, false}
 use mathlib.Core.List.{List, [], _∷_, _++_}
 use Prim.Native.Nat.{ℕ, zero, suc, _+_, _%_}
 use lib.ListN.{length, drop}
-use Rattle.model.specs.Layout.{fresh-table, fresh-rows}
+use Rattle.model.specs.Before.{fresh-table, fresh-rows}
 use Rattle.model.specs.Replay.{record-length, request-of, starts-with-record, Line, bad-record, line-of}
 use Rattle.model.specs.Stored.{Stored, told, kept}
 use Rattle.text.specs.Text.{text-of}

@@ -8,7 +8,7 @@ use Rattle.model.specs.declared.tables.Table.{Table}
 use Rattle.model.specs.State.{State}
 use Rattle.model.specs.Sound.{sound}
 use Rattle.model.specs.Kernel.{call}
-use Rattle.model.specs.Layout.{Rows, view, lay-table, lay-rows, orderly, sound-table, Laid, laid, call-by, call-table}
+use Rattle.model.specs.Before.{Rows, view, lay-table, lay-rows, orderly, sound-table, Laid, laid, call-by, call-table}
 use Rattle.model.specs.Stored.{Stored, seen, is-sound, called, told, kept}
 use Rattle.table.proofs.Stored.{view-laid, laid-table, laid-rows, sound-whole}
 

@@ -14,7 +14,7 @@ use Rattle.model.specs.State.{State, nobody}
 use Rattle.model.specs.Answers.{number, accepted}
 use Rattle.model.specs.Time.{next}
 use Rattle.model.specs.Kernel.{Outcome, outcome, call}
-use Rattle.model.specs.Layout.{view, lay-table, Laid, laid, call-by, call-table}
+use Rattle.model.specs.Before.{view, lay-table, Laid, laid, call-by, call-table}
 use Rattle.model.specs.Promises.{applies}
 use Rattle.model.specs.Stored.{Stored, seen, is-sound, called, told, kept}
 use Rattle.table.proofs.Stored.{view-laid}

@@ -12,7 +12,7 @@ use Rattle.model.specs.Ranges.{_implies_}
 use Rattle.model.specs.Answers.{accepted}
 use Rattle.model.specs.Calls.{numbered}
 use Rattle.model.specs.Kernel.{perform, call}
-use Rattle.model.specs.Layout.{fresh-table, fresh-rows}
+use Rattle.model.specs.Before.{fresh-table, fresh-rows}
 use Rattle.model.specs.Promises.{heads-highest, applies}
 use Rattle.model.specs.Stored.{Stored, seen, is-sound, told, kept}
 use Rattle.table.proofs.LaidSound.{laid-sound}

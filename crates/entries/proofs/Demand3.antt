@@ -16,7 +16,7 @@ use Rattle.model.specs.Ranges.{fits-32}
 use Rattle.model.specs.Tick.{wakes, wrap}
 use Rattle.model.specs.Time.{after-ticks, Next, next}
 use Rattle.model.specs.Kernel.{Outcome, call}
-use Rattle.model.specs.Layout.{view, laid-list, lay-table, lay-rows, call-by, call-table}
+use Rattle.model.specs.Before.{view, laid-list, lay-table, lay-rows, call-by, call-table}
 use Rattle.model.specs.Promises.{advancing, one-by-one, reported}
 use Rattle.model.specs.Stored.{Stored, seen, is-sound, told, kept, singly, singly-told, next-told-by, next-told}
 use Rattle.table.proofs.Stored.{view-laid}

@@ -3,7 +3,7 @@
 ghost use mathlib.Core.Path.{_≡_};
 ghost use Rattle.model.specs.declared.answers.Answer.the-variants.{Unsound};
 ghost use Rattle.model.specs.State.{nobody};
-ghost use Rattle.model.specs.Layout.{call-table};
+ghost use Rattle.model.specs.Before.{call-table};
 ghost use Rattle.model.specs.Promises.{advancing};
 ghost use Rattle.model.specs.Stored.{next-told};
 use model::answers::Answer;

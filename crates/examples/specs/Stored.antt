@@ -7,7 +7,7 @@ use lib.ListN.{set}
 use Rattle.sequences.specs.Lists.{alter}
 use Rattle.model.specs.declared.tables.Table.{Table}
 use Rattle.model.specs.declared.tables.IdList.{IdList}
-use Rattle.model.specs.Layout.{Rows, lay-table, lay-rows, sound-table}
+use Rattle.model.specs.Before.{Rows, lay-table, lay-rows, sound-table}
 use Rattle.examples.specs.Busy.{busy}
 
 pub record Stored : Type 0 where

@@ -9,7 +9,7 @@ use Rattle.model.specs.declared.tables.Flags.{Flags}
 use Rattle.model.specs.declared.tables.Timer.{Timer}
 use Rattle.model.specs.declared.tables.IdList.{IdList}
 use Rattle.model.specs.declared.tables.Table.{Table}
-use Rattle.model.specs.Layout.{Rows}
+use Rattle.model.specs.Before.{Rows}
 
 abbrev pub One : ℕ → Type 0
 One n = n < 256

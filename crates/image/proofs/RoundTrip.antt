@@ -12,7 +12,7 @@ use Rattle.sequences.proofs.EndToEnd.{bytes-take, bytes-drop}
 use Rattle.sequences.proofs.Codecs.{Codec, Many, codec-of-many, bytes-coded, bytes-flat}
 use Rattle.sequences.proofs.Joined.{widths, cut, length-joined, cut-joined, joined-cut, spelled-part}
 use Rattle.model.specs.declared.tables.Table.{Table}
-use Rattle.model.specs.Layout.{Rows}
+use Rattle.model.specs.Before.{Rows}
 use Rattle.image.specs.Image.{parts, image-of, table-of, rows-of}
 use Rattle.image.specs.Image.{thread-bytes, thread-of, semaphore-bytes, semaphore-of, mutex-bytes, mutex-of, flags-bytes, flags-of}
 use Rattle.image.specs.Image.{timer-bytes, timer-of, list-bytes, list-of, row-of}

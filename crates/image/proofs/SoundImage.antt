@@ -29,7 +29,7 @@ use Rattle.model.specs.Words.{is-ready, choice}
 use Rattle.model.specs.Ranges.{is-bit, fits-16, fits-32, is-positive-16, names-object, action-in-range}
 use Rattle.model.specs.Sound.{thread-ranges, thread-in-range, semaphore-in-range, mutex-in-range, flags-in-range, timer-in-range}
 use Rattle.model.specs.Sound.{ids-in-range, field-ranges, clauses, actions-fit, sound-but-choice, choice-fits, sound}
-use Rattle.model.specs.Layout.{Rows, view, ids-of, no-ids, orderly, sound-table}
+use Rattle.model.specs.Before.{Rows, view, ids-of, no-ids, orderly, sound-table}
 use Rattle.placed.specs.Placed.{Placed}
 use Rattle.placed.proofs.Standing.{standing-below}
 use Rattle.placed.proofs.Sounds.{clause, field}

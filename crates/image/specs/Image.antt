@@ -12,7 +12,7 @@ use Rattle.model.specs.declared.tables.Timer.{Timer}
 use Rattle.model.specs.declared.tables.IdList.{IdList}
 use Rattle.model.specs.declared.tables.Table.{Table}
 use Rattle.model.specs.State.{list-count}
-use Rattle.model.specs.Layout.{Rows}
+use Rattle.model.specs.Before.{Rows}
 
 abbrev pub image-length : ℕ
 image-length = 920

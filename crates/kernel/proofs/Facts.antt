@@ -15,8 +15,8 @@ use Rattle.model.specs.Ranges.{has-thread, has-semaphore, has-mutex, has-flags}
 use Rattle.model.specs.Sound.{sound}
 use Rattle.model.specs.Answers.{Given, _when_, accepted, first-due}
 use Rattle.model.specs.Calls.{Call, answers, nobody-runs}
-use Rattle.model.specs.Layout as layout
-use Rattle.model.specs.Layout.{view, orderly, sound-table}
+use Rattle.model.specs.Before as layout
+use Rattle.model.specs.Before.{view, orderly, sound-table}
 use Rattle.placed.proofs.Standing.{standing-below}
 use Rattle.table.specs.Orderly as table
 use Rattle.table.specs.Orderly.{Whole}

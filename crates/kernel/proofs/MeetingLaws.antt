@@ -18,8 +18,8 @@ use Rattle.model.specs.State.{State, absent-thread}
 use Rattle.model.specs.Parts.{thread, alter-thread, with-wait, with-delivered}
 use Rattle.model.specs.Words.{leave, enter-ready, become-ready, wake, holds}
 use Rattle.model.specs.Effects.{wake-each, met}
-use Rattle.model.specs.Layout as layout
-use Rattle.model.specs.Layout.{view, ids-of, list-at}
+use Rattle.model.specs.Before as layout
+use Rattle.model.specs.Before.{view, ids-of, list-at}
 use Rattle.placed.specs.Placed.{Placed}
 use Rattle.placed.proofs.Standing.{alter-placed}
 use Rattle.placed.proofs.Entering.{wake-placed}

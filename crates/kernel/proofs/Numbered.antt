@@ -12,8 +12,8 @@ use Rattle.model.specs.Words.{settle, choose}
 use Rattle.model.specs.Answers.{accepted}
 use Rattle.model.specs.Calls.{Call, calls, numbered}
 use Rattle.model.specs.Kernel.{judge, accept, perform}
-use Rattle.model.specs.Layout as layout
-use Rattle.model.specs.Layout.{view}
+use Rattle.model.specs.Before as layout
+use Rattle.model.specs.Before.{view}
 use Rattle.table.specs.Orderly.{Meets, Does}
 use Rattle.table.proofs.Views.{meets-word, same-word}
 use Rattle.theorems.proofs.ByNumber.{_and_, by-number}

@@ -17,8 +17,8 @@ use Rattle.model.specs.Answers.{number, accepted, report}
 use Rattle.model.specs.Calls.{numbered}
 use Rattle.model.specs.Time.{next, wakeups-in}
 use Rattle.model.specs.Kernel.{judge, answer, next-state, span, outcome, call}
-use Rattle.model.specs.Layout as layout
-use Rattle.model.specs.Layout.{view, orderly, sound-table, laid}
+use Rattle.model.specs.Before as layout
+use Rattle.model.specs.Before.{view, orderly, sound-table, laid}
 use Rattle.table.specs.Orderly.{Does}
 use Rattle.table.proofs.Stored.{laid-table, laid-rows}
 use Rattle.theorems.proofs.Replies.{judge-other}

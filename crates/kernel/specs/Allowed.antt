@@ -6,7 +6,7 @@ use Rattle.model.specs.declared.tables.Table.{Table}
 use Rattle.model.specs.Answers.{accepted, first-due}
 use Rattle.model.specs.Calls.{Call, answers, numbered}
 use Rattle.model.specs.Kernel.{judge}
-use Rattle.model.specs.Layout.{Rows, view, sound-table}
+use Rattle.model.specs.Before.{Rows, view, sound-table}
 
 pub record Allowed (c : Call) (q : Request) (t : Table) (rows : Rows) : Type 0 where
   pub sound : sound-table t rows ≡ true

@@ -2,7 +2,7 @@
 ghost use Prim.Native.Nat.{_<_, _≤_};
 ghost use Rattle.model.specs.Calls.{create-flags, wait, set, clear};
 ghost use Rattle.model.specs.Effects.{create-flags-effect, wait-effect, change-word, set-flags, set-effect, clear-effect};
-ghost use Rattle.model.specs.Layout.{Rows};
+ghost use Rattle.model.specs.Before.{Rows};
 ghost use Rattle.table.specs.Orderly.{Whole, Given, Meets, Does};
 ghost use Rattle.kernel.specs.Allowed.{Allowed, Accepted};
 ghost use Rattle.kernel.specs.Effect.{effect};

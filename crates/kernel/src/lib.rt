@@ -5,7 +5,7 @@ ghost use mathlib.Core.Bool.{true};
 ghost use Prim.Native.Nat.{_<_};
 ghost use Rattle.model.specs.Calls.{numbered};
 ghost use Rattle.model.specs.Kernel.{judge, perform, next-state, call};
-ghost use Rattle.model.specs.Layout.{view, sound-table, laid};
+ghost use Rattle.model.specs.Before.{view, sound-table, laid};
 ghost use Rattle.table.specs.Orderly.{Does};
 ghost use Rattle.kernel.specs.Allowed.{Accepted};
 ghost use Rattle.kernel.specs.Effect.{effect};

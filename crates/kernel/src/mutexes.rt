@@ -4,7 +4,7 @@ ghost use Rattle.model.specs.State.{mutex-list};
 ghost use Rattle.model.specs.Parts.{list};
 ghost use Rattle.model.specs.Calls.{create-mutex, claim, release};
 ghost use Rattle.model.specs.Effects.{create-mutex-effect, raise, claim-effect, fall, hand-over, release-effect};
-ghost use Rattle.model.specs.Layout.{Rows, thread-at};
+ghost use Rattle.model.specs.Before.{Rows, thread-at};
 ghost use Rattle.table.specs.Orderly.{Whole, Given, Meets, Does};
 ghost use Rattle.kernel.specs.Allowed.{Allowed, Accepted};
 ghost use Rattle.kernel.specs.Effect.{effect};

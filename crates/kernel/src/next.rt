@@ -10,7 +10,7 @@ ghost use Rattle.model.specs.declared.tables.Timer.{Timer};
 ghost use Rattle.model.specs.Parts.{thread};
 ghost use Rattle.model.specs.Tick.{quantum-counts};
 ghost use Rattle.model.specs.Time.{next};
-ghost use Rattle.model.specs.Layout.{Rows, view};
+ghost use Rattle.model.specs.Before.{Rows, view};
 ghost use Rattle.table.specs.Orderly.{Orderly};
 use model::tables::Table;
 use model::tables::Thread;

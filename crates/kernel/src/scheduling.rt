@@ -1,7 +1,7 @@
 // The effect of call 21: asked for 0 it is off, asked for 1 it isn't.
 ghost use Rattle.model.specs.Calls.{scheduling};
 ghost use Rattle.model.specs.Effects.{scheduling-effect};
-ghost use Rattle.model.specs.Layout.{Rows};
+ghost use Rattle.model.specs.Before.{Rows};
 ghost use Rattle.table.specs.Orderly.{Meets};
 ghost use Rattle.kernel.specs.Allowed.{Allowed};
 use model::requests::Request;

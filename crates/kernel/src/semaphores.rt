@@ -3,7 +3,7 @@ ghost use Prim.Native.Nat.{_<_, _≤_};
 ghost use Rattle.model.specs.Parts.{alter-semaphore};
 ghost use Rattle.model.specs.Calls.{create-semaphore, pend, post};
 ghost use Rattle.model.specs.Effects.{create-semaphore-effect, pend-effect, one-more, post-semaphore, post-effect};
-ghost use Rattle.model.specs.Layout.{Rows};
+ghost use Rattle.model.specs.Before.{Rows};
 ghost use Rattle.table.specs.Orderly.{OrderlyTable, Whole, Meets, Does};
 ghost use Rattle.kernel.specs.Allowed.{Allowed, Accepted};
 ghost use Rattle.kernel.specs.Effect.{effect};

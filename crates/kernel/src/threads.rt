@@ -3,7 +3,7 @@ ghost use mathlib.Core.Path.{_≡_};
 ghost use Prim.Native.Nat.{_<_, _≤_};
 ghost use Rattle.model.specs.Calls.{create-thread, start, stop, exit, yield, sleep, set-priority, set-quantum};
 ghost use Rattle.model.specs.Effects.{new-thread, new-current, create-thread-effect, start-effect, stop-effect, exit-effect, yield-effect, sleep-effect, set-priority-effect, set-quantum-effect};
-ghost use Rattle.model.specs.Layout.{Rows, view};
+ghost use Rattle.model.specs.Before.{Rows, view};
 ghost use Rattle.table.specs.Orderly.{Meets, Does};
 ghost use Rattle.kernel.specs.Allowed.{Allowed, Accepted};
 ghost use Rattle.kernel.specs.Effect.{effect};

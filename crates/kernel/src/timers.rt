@@ -2,7 +2,7 @@
 ghost use Prim.Native.Nat.{_<_, _≤_};
 ghost use Rattle.model.specs.Calls.{start-timer, stop-timer};
 ghost use Rattle.model.specs.Effects.{start-timer-effect, stop-timer-effect};
-ghost use Rattle.model.specs.Layout.{Rows};
+ghost use Rattle.model.specs.Before.{Rows};
 ghost use Rattle.table.specs.Orderly.{Meets};
 ghost use Rattle.kernel.specs.Allowed.{Allowed, Accepted};
 ghost use Rattle.kernel.specs.Effect.{effect};

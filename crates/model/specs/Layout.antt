@@ -1,119 +1,172 @@
--- How the table stands in its struct, with the ready rows beside it: reading it as plain lists, laying lists out again, and what
--- only the layout can break. `sound-table` is the whole of 01's soundness for a table as it is stored.
-use mathlib.Core.Bool.{Bool, true, false, _&&_}
-use mathlib.Core.List.{List, [], _∷_, map}
-use Prim.Native.Nat.{ℕ}
-use lib.Dec.{eqb, leb}
-use lib.ListN.{length, take, drop, getD}
-use Rattle.sequences.specs.Lists.{padded, take-each, every, all-true, all-zero}
+-- The table is its image: the parts of the image and where each lies (docs/IMAGE.md), the state that is read off the bytes, the bytes in which
+-- a state is laid out, and what only the layout can break. `sound-image` is the whole of 01's soundness for a table as it is kept. No other
+-- file of the model knows bytes.
+use mathlib.Core.Bool.{Bool, _&&_}
+use mathlib.Core.List.{List, [], _∷_, _++_}
+use Prim.Native.Nat.{ℕ, _+_}
+use lib.Dec.{eqb}
+use lib.ListN.{length, getD, take, drop}
+use Rattle.sequences.specs.Bytes.{joined, part}
+use Rattle.sequences.specs.Records.{Place, end, all, total, reads, lays, bytes-of-all}
+use Rattle.sequences.specs.Links.{lists-in, links-of, orderly-links}
 use Rattle.model.specs.declared.tables.Thread.{Thread}
-use Rattle.model.specs.declared.tables.IdList.{IdList}
-use Rattle.model.specs.declared.tables.Table.{Table}
-use Rattle.model.specs.declared.requests.Request.{Request}
-use Rattle.model.specs.declared.answers.Answer.the-variants.{Unsound}
-use Rattle.model.specs.declared.answers.Reply.{Reply}
-use Rattle.model.specs.State.{State, places, priority-count, absent-thread, fresh}
-use Rattle.model.specs.Sound.{each-priority, shaped, sound}
-use Rattle.model.specs.Answers.{report}
-use Rattle.model.specs.Kernel.{Outcome, call}
+use Rattle.model.specs.declared.tables.Semaphore.{Semaphore}
+use Rattle.model.specs.declared.tables.Mutex.{Mutex}
+use Rattle.model.specs.declared.tables.Flags.{Flags}
+use Rattle.model.specs.declared.tables.Timer.{Timer}
+use Rattle.model.specs.State.{State, thread-count, priority-count, semaphore-count, mutex-count, flags-count, timer-count, list-count}
+use Rattle.model.specs.Sound.{timer-numbers, sound}
 
-abbrev pub Rows : Type 0
-Rows = List (List ℕ)
+-- ---- the parts, each of which starts where the one before it ends
+
+-- the head: clock, scheduling, chosen
+abbrev pub head-widths : List ℕ
+head-widths = 4 ∷ 1 ∷ 1 ∷ []
+
+abbrev pub head-numbers : State → List ℕ
+head-numbers s = s .clock ∷ s .off ∷ s .chosen ∷ []
+
+abbrev pub thread-from : List ℕ → Thread
+thread-from l =
+    record {
+      created = getD l 0 0;
+      base = getD l 1 0;
+      current = getD l 2 0;
+      quantum = getD l 3 0;
+      left = getD l 4 0;
+      limit = getD l 5 0;
+      result = getD l 6 0;
+      mask = getD l 7 0;
+      mode = getD l 8 0;
+      delivered = getD l 9 0;
+    }
+
+abbrev pub thread-numbers : Thread → List ℕ
+thread-numbers t = t .created ∷ t .base ∷ t .current ∷ t .quantum ∷ t .left ∷ t .limit ∷ t .result ∷ t .mask ∷ t .mode ∷ t .delivered ∷ []
+
+abbrev pub threads-at : Place Thread
+threads-at =
+    record {
+      of = thread-from;
+      numbers = thread-numbers;
+      widths = 1 ∷ 1 ∷ 1 ∷ 2 ∷ 2 ∷ 4 ∷ 1 ∷ 2 ∷ 1 ∷ 2 ∷ [];
+      first = total head-widths;
+      many = thread-count;
+    }
+
+abbrev pub semaphores-at : Place Semaphore
+semaphores-at =
+    record {
+      of = λ l. record { created = getD l 0 0; count = getD l 1 0; maximum = getD l 2 0 };
+      numbers = λ x. x .created ∷ x .count ∷ x .maximum ∷ [];
+      widths = 1 ∷ 2 ∷ 2 ∷ [];
+      first = end threads-at;
+      many = semaphore-count;
+    }
+
+abbrev pub mutexes-at : Place Mutex
+mutexes-at =
+    record {
+      of = λ l. record { created = getD l 0 0; owner = getD l 1 0; depth = getD l 2 0 };
+      numbers = λ x. x .created ∷ x .owner ∷ x .depth ∷ [];
+      widths = 1 ∷ 1 ∷ 1 ∷ [];
+      first = end semaphores-at;
+      many = mutex-count;
+    }
+
+abbrev pub flags-at : Place Flags
+flags-at =
+    record {
+      of = λ l. record { created = getD l 0 0; word = getD l 1 0 };
+      numbers = λ x. x .created ∷ x .word ∷ [];
+      widths = 1 ∷ 2 ∷ [];
+      first = end mutexes-at;
+      many = flags-count;
+    }
+
+abbrev pub timer-from : List ℕ → Timer
+timer-from l =
+    record {
+      period = getD l 0 0;
+      left = getD l 1 0;
+      repeat = getD l 2 0;
+      kind = getD l 3 0;
+      object = getD l 4 0;
+      mask = getD l 5 0;
+      count = getD l 6 0;
+    }
+
+abbrev pub timers-at : Place Timer
+timers-at =
+    record {
+      of = timer-from;
+      numbers = timer-numbers;
+      widths = 4 ∷ 4 ∷ 1 ∷ 1 ∷ 1 ∷ 2 ∷ 4 ∷ [];
+      first = end flags-at;
+      many = timer-count;
+    }
+
+-- the links: next of each thread, first of each list, previous of each thread, last of each list, a byte each. The ready lists come
+-- first, then all others by their numbers.
+abbrev pub linked-lists : ℕ
+linked-lists = priority-count + list-count
+
+abbrev pub links-first : ℕ
+links-first = end timers-at
+
+abbrev pub links-length : ℕ
+links-length = thread-count + linked-lists + (thread-count + linked-lists)
+
+abbrev pub image-length : ℕ
+image-length = links-first + links-length
 
 -- ---- reading
 
-abbrev pub ids-of : IdList → List ℕ
-ids-of l = take (l .length) (l .ids)
+-- the part of the links, and the lists that they lead through
+abbrev pub links-part : List ℕ → List ℕ
+links-part b = part links-first links-length b
 
--- what stands for a list where there is none
-abbrev pub no-ids : IdList
-no-ids = record { length = 0; ids = [] }
+abbrev pub lists-of : List ℕ → List (List ℕ)
+lists-of b = lists-in thread-count linked-lists (links-part b)
 
--- one list, and one thread's record, of the arrays that hold them
-abbrev pub list-at : List IdList → ℕ → IdList
-list-at waits j = getD waits j no-ids
-
-abbrev pub thread-at : List Thread → ℕ → Thread
-thread-at threads i = getD threads i absent-thread
-
-unfoldable pub view : Table → Rows → State
-view t rows =
+unfoldable pub view : List ℕ → State
+view b =
     record {
-      clock = t .clock;
-      off = t .off;
-      chosen = t .chosen;
-      threads = t .threads;
-      semaphores = t .semaphores;
-      mutexes = t .mutexes;
-      flags = t .flags;
-      timers = t .timers;
-      ready = take-each (t .lengths) rows;
-      waits = map ids-of (t .waits);
+      clock = getD (reads head-widths 0 b) 0 0;
+      off = getD (reads head-widths 0 b) 1 0;
+      chosen = getD (reads head-widths 0 b) 2 0;
+      threads = all threads-at b;
+      semaphores = all semaphores-at b;
+      mutexes = all mutexes-at b;
+      flags = all flags-at b;
+      timers = all timers-at b;
+      ready = take priority-count (lists-of b);
+      waits = drop priority-count (lists-of b);
     }
 
--- ---- laying out, with zeros past each end
+-- ---- laying out
 
-abbrev pub laid-list : List ℕ → IdList
-laid-list l = record { length = length l; ids = padded places l }
+abbrev pub image-parts : State → List (List ℕ)
+image-parts s =
+    lays head-widths (head-numbers s)
+    ∷ bytes-of-all threads-at (s .threads)
+    ∷ bytes-of-all semaphores-at (s .semaphores)
+    ∷ bytes-of-all mutexes-at (s .mutexes)
+    ∷ bytes-of-all flags-at (s .flags)
+    ∷ bytes-of-all timers-at (s .timers)
+    ∷ links-of thread-count (s .ready ++ s .waits)
+    ∷ []
 
-unfoldable pub lay-table : State → Table
-lay-table s =
-    record {
-      clock = s .clock;
-      off = s .off;
-      chosen = s .chosen;
-      threads = s .threads;
-      semaphores = s .semaphores;
-      mutexes = s .mutexes;
-      flags = s .flags;
-      timers = s .timers;
-      lengths = map (λ (l : List ℕ). length l) (s .ready);
-      waits = map laid-list (s .waits);
-    }
-
-unfoldable pub lay-rows : State → Rows
-lay-rows s = map (padded places) (s .ready)
+unfoldable pub lay : State → List ℕ
+lay s = joined (image-parts s)
 
 -- ---- what only the layout can break
 
--- 01, The table, on a list's room and on the places past its end
-abbrev pub row-orderly : ℕ → List ℕ → Bool
-row-orderly n ids = eqb (length ids) places && leb n places && all-zero (drop n ids)
-
--- the arrays have their lengths, and so have the lists in them
-unfoldable pub orderly : Table → Rows → Bool
-orderly t rows =
-    all-true
-    (shaped (view t rows)
-    ∷ eqb (length (t .lengths)) priority-count
-    ∷ eqb (length rows) priority-count
-    ∷ each-priority (λ p. row-orderly (getD (t .lengths) p 0) (getD rows p []))
-    ∷ every (λ (l : IdList). row-orderly (l .length) (l .ids)) (t .waits)
-    ∷ [])
+-- the length, and links that aren't those of the lists that they lead through
+unfoldable pub orderly : List ℕ → Bool
+orderly b = eqb (length b) image-length && orderly-links thread-count linked-lists (links-part b)
 
 -- ---- the whole
 
-unfoldable pub sound-table : Table → Rows → Bool
-sound-table t rows = orderly t rows && sound (view t rows)
-
--- a call on a stored table: what it hands back, and the rows beside that
-pub record Laid : Type 0 where
-  pub reply : Reply
-  pub rows : Rows
-
-abbrev pub laid : Outcome → Laid
-laid o = record { reply = record { report = o .report; table = lay-table (o .after) }; rows = lay-rows (o .after) }
-
--- a sound table: the call, laid out; any other: refusal 1, and every field as it was
-unfoldable pub call-by : Bool → Table → Rows → Request → Laid
-call-by true t rows q = laid (call (view t rows) q)
-call-by false t rows q = record { reply = record { report = report Unsound (view t rows) 0 0; table = t }; rows = rows }
-
-unfoldable pub call-table : Table → Rows → Request → Laid
-call-table t rows q = call-by (sound-table t rows) t rows q
-
-unfoldable pub fresh-table : Table
-fresh-table = lay-table fresh
-
-unfoldable pub fresh-rows : Rows
-fresh-rows = lay-rows fresh
+unfoldable pub sound-image : List ℕ → Bool
+sound-image b = orderly b && sound (view b)

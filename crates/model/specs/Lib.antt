@@ -10,6 +10,7 @@ pub mod Tick
 pub mod Time
 pub mod Kernel
 pub mod Layout
+pub mod Before
 pub mod Replay
 pub mod Promises
 pub mod Stored

@@ -1,5 +1,5 @@
 -- 01, The table, the paragraph on soundness: as far as plain lists can say it, a test for each of its clauses, in its order.
--- What only the layout can break, zeros past a list's end among it, is `orderly` in Layout.antt.
+-- What only the layout can break is `orderly`: in Layout.antt links, in Before.antt zeros past a list's end.
 use mathlib.Core.Bool.{Bool, cond, not, _&&_, _||_}
 use mathlib.Core.List.{List, [], _∷_, map}
 use Prim.Native.Nat.{ℕ, _+_}

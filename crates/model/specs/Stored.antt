@@ -8,7 +8,7 @@ use Rattle.model.specs.declared.requests.Request.{Request}
 use Rattle.model.specs.State.{State}
 use Rattle.model.specs.Answers.{report}
 use Rattle.model.specs.Time.{next}
-use Rattle.model.specs.Layout.{Rows, view, sound-table, Laid, call-table}
+use Rattle.model.specs.Before.{Rows, view, sound-table, Laid, call-table}
 use Rattle.model.specs.Promises.{advancing}
 
 -- ---- a table with its rows

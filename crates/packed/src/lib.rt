@@ -1,8 +1,9 @@
 // Numbers in bytes, low byte first, and bytes copied from one slice to another: what image and records are read and written by.
 ghost use mathlib.Core.Path.{_≡_};
-ghost use Prim.Native.Nat.{_+_, _<_};
+ghost use Prim.Native.Nat.{_+_, _<_, _≤_};
 ghost use lib.ListN.{length};
-ghost use Rattle.sequences.specs.Bytes.{two-at, four-at};
+ghost use lib.Seq.{sets};
+ghost use Rattle.sequences.specs.Bytes.{two-at, four-at, put};
 
 fn wide16(b: u8) -> u16
     ensures { λ r. ⌜ (r ≡ b) × (r < 256) ⌝ }
@@ -40,4 +41,31 @@ pub fn copy(dst: &mut [u8], src: &[u8])
         dst[i] = src[i];
         i += 1;
     }
+}
+
+// All of `src` into `dst`, from a place on.
+pub fn copy_at(dst: &mut [u8], from: usize, src: &[u8])
+    requires { ⌜ from + length (now src) ≤ length (now dst) ⌝ }
+    ensures { λ _. ⌜ now (dst .exit) ≡ sets (now (dst .entry)) from (now (src .entry)) ⌝ }
+{
+    let to = from + src.len();
+    copy(&mut dst[from..to], src);
+}
+
+pub fn put_u16(s: &mut [u8], k: usize, x: u16)
+    requires { ⌜ k + 1 < length (now s) ⌝ }
+    ensures { λ _. ⌜ now (s .exit) ≡ put 2 k x (now (s .entry)) ⌝ }
+{
+    s[k] = (x % 256) as u8;
+    s[k + 1] = (x / 256) as u8;
+}
+
+pub fn put_u32(s: &mut [u8], k: usize, x: u32)
+    requires { ⌜ k + 3 < length (now s) ⌝ }
+    ensures { λ _. ⌜ now (s .exit) ≡ put 4 k x (now (s .entry)) ⌝ }
+{
+    s[k] = (x % 256) as u8;
+    s[k + 1] = (x / 256 % 256) as u8;
+    s[k + 2] = (x / 256 / 256 % 256) as u8;
+    s[k + 3] = (x / 256 / 256 / 256) as u8;
 }

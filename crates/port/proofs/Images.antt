@@ -12,7 +12,7 @@ use Rattle.model.specs.declared.answers.Report.{Report}
 use Rattle.model.specs.declared.requests.Request.{Request}
 use Rattle.model.specs.Answers.{number, accepted}
 use Rattle.model.specs.Time.{next}
-use Rattle.model.specs.Layout.{Laid}
+use Rattle.model.specs.Before.{Laid}
 use Rattle.model.specs.Stored.{Stored, seen, is-sound, told, kept, next-told-by, next-told}
 use Rattle.entries.proofs.Demand1.{unsound-kept, refused-kept}
 use Rattle.image.specs.Image.{image-of, image-length}

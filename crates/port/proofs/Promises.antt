@@ -14,7 +14,7 @@ use Rattle.model.specs.declared.requests.Request.{Request}
 use Rattle.model.specs.declared.tables.Table.{Table}
 use Rattle.model.specs.Answers.{accepted}
 use Rattle.model.specs.Time.{next}
-use Rattle.model.specs.Layout.{Rows, fresh-table, fresh-rows}
+use Rattle.model.specs.Before.{Rows, fresh-table, fresh-rows}
 use Rattle.model.specs.Stored.{Stored, seen, is-sound, kept}
 use Rattle.entries.proofs.Demand1.{sound-told}
 use Rattle.entries.proofs.Demand2.{fresh-stored, sound-kept}

@@ -11,7 +11,7 @@ use Rattle.model.specs.declared.requests.Request.{Request}
 use Rattle.model.specs.State.{nobody}
 use Rattle.model.specs.Answers.{number}
 use Rattle.model.specs.Time.{next}
-use Rattle.model.specs.Layout.{fresh-table, fresh-rows}
+use Rattle.model.specs.Before.{fresh-table, fresh-rows}
 use Rattle.model.specs.Stored.{Stored, seen, is-sound, told, kept}
 use Rattle.image.specs.Image.{image-length, image-of, table-of, rows-of}
 

@@ -7,9 +7,9 @@ ghost use Rattle.model.specs.Ranges.{is-positive-16, fits-32};
 ghost use Rattle.model.specs.Answers.{first-due};
 ghost use Rattle.model.specs.Calls.{answers, numbered, create-flags, wait, set, clear};
 ghost use Rattle.model.specs.Kernel.{judge};
-ghost use Rattle.model.specs.Layout.{Rows, view};
+ghost use Rattle.model.specs.Before.{Rows, view};
 use crate::due;
-use crate::fields;
+use crate::request_fields;
 use model::answers::Answer;
 use model::calls::CREATE_FLAGS;
 use model::calls::WAIT;
@@ -23,7 +23,7 @@ fn create_flags(t: Table, q: Request) -> Answer
     ensures { λ r. ⌜ ((rows : Rows) → r ≡ first-due (answers create-flags q (view t rows))) ⌝ }
 {
     let flags = t.flags;
-    let unused = fields::unused_bcd(q);
+    let unused = request_fields::unused_bcd(q);
     let exists = objects::flags_there(flags, q.id);
     let mut due = due::nothing();
     due.object = 4 <= q.id;
@@ -36,7 +36,7 @@ fn create_flags(t: Table, q: Request) -> Answer
 fn wait_fits(q: Request) -> bool
     ensures { λ r. ⌜ r ≡ (is-positive-16 (q .a) && leb (q .b) 3 && fits-32 (q .c) && eqb (q .d) 0) ⌝ }
 {
-    let mask = fields::is_positive_16(q.a);
+    let mask = request_fields::is_positive_16(q.a);
     mask & (q.b <= 3) & (q.d == 0)
 }
 
@@ -66,8 +66,8 @@ fn change(t: Table, q: Request) -> Answer
 {
     let flags = t.flags;
     let there = objects::flags_there(flags, q.id);
-    let mask = fields::is_positive_16(q.a);
-    let unused = fields::unused_bcd(q);
+    let mask = request_fields::is_positive_16(q.a);
+    let unused = request_fields::unused_bcd(q);
     let mut due = due::nothing();
     due.object = !there;
     due.number = !(mask & unused);

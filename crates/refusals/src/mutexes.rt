@@ -4,9 +4,9 @@ ghost use Prim.Native.Nat.{_<_, _≤_};
 ghost use Rattle.model.specs.Answers.{first-due};
 ghost use Rattle.model.specs.Calls.{answers, numbered, create-mutex, claim, release};
 ghost use Rattle.model.specs.Kernel.{judge};
-ghost use Rattle.model.specs.Layout.{Rows, view};
+ghost use Rattle.model.specs.Before.{Rows, view};
 use crate::due;
-use crate::fields;
+use crate::request_fields;
 use model::answers::Answer;
 use model::calls::CLAIM;
 use model::calls::CREATE_MUTEX;
@@ -20,7 +20,7 @@ fn create_mutex(t: Table, q: Request) -> Answer
     ensures { λ r. ⌜ ((rows : Rows) → r ≡ first-due (answers create-mutex q (view t rows))) ⌝ }
 {
     let mutexes = t.mutexes;
-    let unused = fields::unused_abcd(q);
+    let unused = request_fields::unused_abcd(q);
     let exists = objects::mutex_there(mutexes, q.id);
     let mut due = due::nothing();
     due.object = 4 <= q.id;
@@ -34,7 +34,7 @@ fn claim(t: Table, q: Request) -> Answer
 {
     let mutexes = t.mutexes;
     let there = objects::mutex_there(mutexes, q.id);
-    let numbers = fields::limit_only(q);
+    let numbers = request_fields::limit_only(q);
     let x = objects::mutex(mutexes, q.id);
     let owns = owners::owns(x, t.chosen);
     let waits = owners::is_others(x, t.chosen);
@@ -53,7 +53,7 @@ fn release(t: Table, q: Request) -> Answer
 {
     let mutexes = t.mutexes;
     let there = objects::mutex_there(mutexes, q.id);
-    let unused = fields::unused_abcd(q);
+    let unused = request_fields::unused_abcd(q);
     let x = objects::mutex(mutexes, q.id);
     let owns = owners::owns(x, t.chosen);
     let mut due = due::nothing();

@@ -6,7 +6,7 @@ ghost use Rattle.model.specs.Answers.{first-due};
 ghost use Rattle.model.specs.Calls.{answers, numbered, scheduling, advance};
 ghost use Rattle.model.specs.Kernel.{judge};
 use crate::due;
-use crate::fields;
+use crate::request_fields;
 use model::answers::Answer;
 use model::calls::SCHEDULING;
 use model::requests::Request;
@@ -14,7 +14,7 @@ use model::requests::Request;
 fn scheduling(q: Request) -> Answer
     ensures { λ r. ⌜ ((s : State) → r ≡ first-due (answers scheduling q s)) ⌝ }
 {
-    let unused = fields::unused_bcd(q);
+    let unused = request_fields::unused_bcd(q);
     let mut due = due::nothing();
     due.number = !((q.id == 0) & (q.a <= 1) & unused);
     due::first(due)
@@ -23,7 +23,7 @@ fn scheduling(q: Request) -> Answer
 fn advance(q: Request) -> Answer
     ensures { λ r. ⌜ ((s : State) → r ≡ first-due (answers advance q s)) ⌝ }
 {
-    let numbers = fields::limit_only(q);
+    let numbers = request_fields::limit_only(q);
     let mut due = due::nothing();
     due.number = !((q.id == 0) & numbers);
     due::first(due)

@@ -4,10 +4,10 @@ ghost use Prim.Native.Nat.{_<_, _≤_};
 ghost use Rattle.model.specs.Answers.{first-due};
 ghost use Rattle.model.specs.Calls.{answers, numbered, create-semaphore, pend, post};
 ghost use Rattle.model.specs.Kernel.{judge};
-ghost use Rattle.model.specs.Layout.{Rows, view};
+ghost use Rattle.model.specs.Before.{Rows, view};
 ghost use Rattle.table.specs.Orderly.{OrderlyTable};
 use crate::due;
-use crate::fields;
+use crate::request_fields;
 use model::answers::Answer;
 use model::calls::CREATE_SEMAPHORE;
 use model::calls::PEND;
@@ -22,8 +22,8 @@ fn create_semaphore(t: Table, q: Request) -> Answer
     ensures { λ r. ⌜ ((rows : Rows) → r ≡ first-due (answers create-semaphore q (view t rows))) ⌝ }
 {
     let semaphores = t.semaphores;
-    let maximum = fields::is_positive_16(q.b);
-    let unused = fields::unused_cd(q);
+    let maximum = request_fields::is_positive_16(q.b);
+    let unused = request_fields::unused_cd(q);
     let exists = objects::semaphore_there(semaphores, q.id);
     let mut due = due::nothing();
     due.object = 8 <= q.id;
@@ -37,7 +37,7 @@ fn pend(t: Table, q: Request) -> Answer
 {
     let semaphores = t.semaphores;
     let there = objects::semaphore_there(semaphores, q.id);
-    let numbers = fields::limit_only(q);
+    let numbers = request_fields::limit_only(q);
     let x = objects::semaphore(semaphores, q.id);
     let waits = x.count == 0;
     let mut due = due::nothing();
@@ -57,7 +57,7 @@ fn post(t: Table, q: Request) -> Answer
     if !objects::semaphore_there(semaphores, q.id) {
         return Answer::NoObject;
     }
-    let unused = fields::unused_abcd(q);
+    let unused = request_fields::unused_abcd(q);
     let x = objects::semaphore(semaphores, q.id);
     let awaited = standing::waited_for(t, SEMAPHORE_LIST + (q.id as usize));
     let mut due = due::nothing();

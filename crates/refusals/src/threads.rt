@@ -5,10 +5,10 @@ ghost use Prim.Native.Nat.{_<_, _≤_};
 ghost use Rattle.model.specs.Answers.{first-due};
 ghost use Rattle.model.specs.Calls.{answers, numbered, create-thread, start, stop, exit, yield, sleep, set-priority, set-quantum};
 ghost use Rattle.model.specs.Kernel.{judge};
-ghost use Rattle.model.specs.Layout.{Rows, view, sound-table};
+ghost use Rattle.model.specs.Before.{Rows, view, sound-table};
 ghost use Rattle.table.specs.Orderly.{OrderlyTable};
 use crate::due;
-use crate::fields;
+use crate::request_fields;
 use model::answers::Answer;
 use model::calls::CREATE_THREAD;
 use model::calls::EXIT;
@@ -28,7 +28,7 @@ fn create_thread(t: Table, q: Request) -> Answer
     ensures { λ r. ⌜ ((rows : Rows) → r ≡ first-due (answers create-thread q (view t rows))) ⌝ }
 {
     let threads = t.threads;
-    let unused = fields::unused_cd(q);
+    let unused = request_fields::unused_cd(q);
     let exists = objects::thread_there(threads, q.id);
     let mut due = due::nothing();
     due.object = 16 <= q.id;
@@ -45,7 +45,7 @@ fn start(t: Table, q: Request) -> Answer
     if !objects::thread_there(threads, q.id) {
         return Answer::NoObject;
     }
-    let unused = fields::unused_abcd(q);
+    let unused = request_fields::unused_abcd(q);
     let stopped = standing::is_stopped(t, q.id as u8);
     let mut due = due::nothing();
     due.number = !unused;
@@ -61,7 +61,7 @@ fn stop(t: Table, rows: [[u8; 16]; 8], q: Request) -> Answer
     if !objects::thread_there(threads, q.id) {
         return Answer::NoObject;
     }
-    let unused = fields::unused_abcd(q);
+    let unused = request_fields::unused_abcd(q);
     let ready = standing::is_ready(t, rows, q.id as u8);
     let mut due = due::nothing();
     due.number = !unused;
@@ -74,7 +74,7 @@ fn exit(t: Table, q: Request) -> Answer
     ensures { λ r. ⌜ ((rows : Rows) → r ≡ first-due (answers exit q (view t rows))) ⌝ }
 {
     let mutexes = t.mutexes;
-    let unused = fields::unused_abcd(q);
+    let unused = request_fields::unused_abcd(q);
     let owns = owners::owns_one_of(mutexes, t.chosen);
     let mut due = due::nothing();
     due.number = !((q.id == 0) & unused);
@@ -87,7 +87,7 @@ fn exit(t: Table, q: Request) -> Answer
 fn yields(t: Table, q: Request) -> Answer
     ensures { λ r. ⌜ ((rows : Rows) → r ≡ first-due (answers yield q (view t rows))) ⌝ }
 {
-    let unused = fields::unused_abcd(q);
+    let unused = request_fields::unused_abcd(q);
     let mut due = due::nothing();
     due.number = !((q.id == 0) & unused);
     due.nobody = t.chosen == NOBODY;
@@ -98,8 +98,8 @@ fn yields(t: Table, q: Request) -> Answer
 fn sleep(t: Table, q: Request) -> Answer
     ensures { λ r. ⌜ ((rows : Rows) → r ≡ first-due (answers sleep q (view t rows))) ⌝ }
 {
-    let unused = fields::unused_bcd(q);
-    let span = fields::is_positive_32(q.a);
+    let unused = request_fields::unused_bcd(q);
+    let span = request_fields::is_positive_32(q.a);
     let mut due = due::nothing();
     due.number = !((q.id == 0) & span & unused);
     due.nobody = t.chosen == NOBODY;
@@ -113,7 +113,7 @@ fn set_priority(t: Table, q: Request) -> Answer
 {
     let threads = t.threads;
     let there = objects::thread_there(threads, q.id);
-    let unused = fields::unused_bcd(q);
+    let unused = request_fields::unused_bcd(q);
     let mut due = due::nothing();
     due.object = !there;
     due.number = !((q.a < 8) & unused);
@@ -125,7 +125,7 @@ fn set_quantum(t: Table, q: Request) -> Answer
 {
     let threads = t.threads;
     let there = objects::thread_there(threads, q.id);
-    let unused = fields::unused_bcd(q);
+    let unused = request_fields::unused_bcd(q);
     let mut due = due::nothing();
     due.object = !there;
     due.number = !((q.a <= 65535) & unused);

@@ -5,9 +5,9 @@ ghost use Rattle.model.specs.Answers.{first-due};
 ghost use Rattle.model.specs.Calls.{answers, numbered, start-timer, stop-timer};
 ghost use Rattle.model.specs.declared.tables.Table.{Table};
 ghost use Rattle.model.specs.Kernel.{judge};
-ghost use Rattle.model.specs.Layout.{Rows, view};
+ghost use Rattle.model.specs.Before.{Rows, view};
 use crate::due;
-use crate::fields;
+use crate::request_fields;
 use model::answers::Answer;
 use model::calls::START_TIMER;
 use model::requests::Request;
@@ -22,7 +22,7 @@ fn start_timer(t: Table, q: Request) -> Answer
     let kind = q.c % 256;
     let object = q.c / 256;
     let named = objects::names_object(semaphores, flags, kind, object);
-    let period = fields::is_positive_32(q.a);
+    let period = request_fields::is_positive_32(q.a);
     let action = objects::action_in_range(kind, object, q.d);
     let mut due = due::nothing();
     due.object = !((q.id < 8) & named);
@@ -33,7 +33,7 @@ fn start_timer(t: Table, q: Request) -> Answer
 fn stop_timer(q: Request) -> Answer
     ensures { λ r. ⌜ ((t : Table) (rows : Rows) → r ≡ first-due (answers stop-timer q (view t rows))) ⌝ }
 {
-    let unused = fields::unused_abcd(q);
+    let unused = request_fields::unused_abcd(q);
     let mut due = due::nothing();
     due.object = 8 <= q.id;
     due.number = !unused;

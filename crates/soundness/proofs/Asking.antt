@@ -11,7 +11,7 @@ use lib.Seq.{drop-cons}
 use Rattle.sequences.specs.Lists.{every}
 use Rattle.sequences.proofs.Bounds.{falls-behind, falls-step, falls-end}
 use Rattle.model.specs.declared.tables.Thread.{Thread}
-use Rattle.model.specs.Layout.{thread-at}
+use Rattle.model.specs.Before.{thread-at}
 use Rattle.soundness.specs.Lists.{member-fits, list-asks, of-object}
 
 -- a list of length 0 has nobody on it, and asks nothing

@@ -12,7 +12,7 @@ use Rattle.sequences.proofs.Counts.{among-count, among-any-count, or-sum, count
 use Rattle.sequences.proofs.Slices.{slice-to-end, count-all-meets}
 use Rattle.model.specs.declared.tables.Table.{Table}
 use Rattle.model.specs.Words.{awaits-flags, is-waiting, sleeps}
-use Rattle.model.specs.Layout.{Rows, ids-of, view}
+use Rattle.model.specs.Before.{Rows, ids-of, view}
 use Rattle.soundness.specs.Lists.{Tallied}
 use Rattle.soundness.specs.Shape.{Shape}
 

@@ -12,7 +12,7 @@ use Rattle.sequences.proofs.Counts.{count-append, count-all-append, count-at-mo
 use Rattle.sequences.proofs.Slices.{count-all-slice}
 use Rattle.sequences.proofs.Tests.{every-below-at}
 use Rattle.model.specs.declared.tables.IdList.{IdList}
-use Rattle.model.specs.Layout.{ids-of, no-ids, list-at}
+use Rattle.model.specs.Before.{ids-of, no-ids, list-at}
 use Rattle.soundness.specs.Lists.{CountsUpTo, Tallied, wait-list-fits}
 use Rattle.soundness.proofs.Fitting.{fitting}
 

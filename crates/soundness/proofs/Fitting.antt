@@ -13,7 +13,7 @@ use Rattle.sequences.proofs.Tests.{both, left, right, same-truth, untrue, every
 use Rattle.rows.specs.Row.{Row}
 use Rattle.rows.proofs.Rows.{row-from, zero-past, length-held}
 use Rattle.model.specs.Sound.{ids-in-range}
-use Rattle.model.specs.Layout.{row-orderly}
+use Rattle.model.specs.Before.{row-orderly}
 use Rattle.table.proofs.Stored.{row-facts, row-test}
 use Rattle.soundness.specs.Lists.{list-fits, tops}
 use Rattle.soundness.proofs.Tops.{top-before, top-past}

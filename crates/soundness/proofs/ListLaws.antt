@@ -13,7 +13,7 @@ use Rattle.sequences.proofs.Places.{take-each-at, length-take-each}
 use Rattle.model.specs.declared.tables.IdList.{IdList}
 use Rattle.model.specs.declared.tables.Table.{Table}
 use Rattle.model.specs.Sound.{shaped, ids-in-range}
-use Rattle.model.specs.Layout.{Rows, ids-of, no-ids, view, row-orderly, orderly, list-at}
+use Rattle.model.specs.Before.{Rows, ids-of, no-ids, view, row-orderly, orderly, list-at}
 use Rattle.table.proofs.Views.{list-view}
 use Rattle.soundness.specs.Lists.{list-fits}
 use Rattle.soundness.specs.Whole.{ready-fits, waits-fit}

@@ -13,7 +13,7 @@ use Rattle.model.specs.declared.tables.Table.{Table}
 use Rattle.model.specs.State.{absent-flags}
 use Rattle.model.specs.Sound.{ready-by-priority, wait-lists-fall, sleepers-limited, conditions-unmet, flag-waiters-masked}
 use Rattle.model.specs.Words.{holds}
-use Rattle.model.specs.Layout.{Rows, ids-of, view, list-at, thread-at}
+use Rattle.model.specs.Before.{Rows, ids-of, view, list-at, thread-at}
 use Rattle.soundness.specs.Lists.{member-fits, list-asks, of-ready, of-sleep, of-stopped, of-object, of-flags}
 use Rattle.soundness.specs.Whole.{members-fit}
 use Rattle.table.proofs.Views.{list-view}

@@ -14,7 +14,7 @@ use Rattle.model.specs.Parts.{semaphore, mutex, thread, flag-object, list}
 use Rattle.model.specs.Sound.{semaphore-in-range, awaited-semaphores-empty, counts-within-maximum, absent-semaphores-zero}
 use Rattle.model.specs.Sound.{mutex-in-range, unowned-written-zero, awaited-mutexes-owned, owners-created, owners-wait-elsewhere, absent-mutexes-zero}
 use Rattle.model.specs.Sound.{flags-in-range, absent-flags-zero}
-use Rattle.model.specs.Layout.{Rows, ids-of, view, list-at, thread-at}
+use Rattle.model.specs.Before.{Rows, ids-of, view, list-at, thread-at}
 use Rattle.soundness.specs.Lists.{wait-list-fits}
 use Rattle.soundness.specs.Records.{semaphore-fits, mutex-fits, flags-fit}
 use Rattle.rows.proofs.Rows.{length-held}

@@ -15,7 +15,7 @@ use Rattle.model.specs.Ranges.{_implies_}
 use Rattle.model.specs.Words.{sleeps, is-waiting, awaits-flags, owns-any}
 use Rattle.model.specs.Sound.{thread-in-range, zero-thread, each-on-one-list, absent-threads-zero, currents-fit, others-unlimited}
 use Rattle.model.specs.Sound.{others-maskless, waits-without-result, quanta-fit}
-use Rattle.model.specs.Layout.{Rows, view, thread-at}
+use Rattle.model.specs.Before.{Rows, view, thread-at}
 use Rattle.table.specs.Owners.{owns-one-of}
 use Rattle.table.proofs.ByArray.{owns-any-one-of}
 use Rattle.soundness.specs.Records.{thread-fits}

@@ -12,7 +12,7 @@ use Rattle.model.specs.State.{State, unused-timer}
 use Rattle.model.specs.Parts.{timer}
 use Rattle.model.specs.Ranges.{_implies_, names-object, action-in-range}
 use Rattle.model.specs.Sound.{timer-in-range, zero-timer, timers-within-period, unused-timers-zero, actions-fit}
-use Rattle.model.specs.Layout.{Rows, view}
+use Rattle.model.specs.Before.{Rows, view}
 use Rattle.table.specs.Objects.{names-one-of}
 use Rattle.table.proofs.ByArray.{names-object-one-of}
 use Rattle.soundness.specs.Records.{timer-fits}

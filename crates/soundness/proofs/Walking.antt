@@ -11,7 +11,7 @@ use Rattle.sequences.specs.Lists.{every-below}
 use Rattle.sequences.proofs.Tests.{every-below-grown}
 use Rattle.sequences.proofs.Slices.{take-grown}
 use Rattle.model.specs.declared.tables.IdList.{IdList}
-use Rattle.model.specs.Layout.{ids-of, no-ids, list-at}
+use Rattle.model.specs.Before.{ids-of, no-ids, list-at}
 use Rattle.soundness.specs.Lists.{CountsUpTo, Walked, wait-list-fits}
 use Rattle.soundness.proofs.Counting.{tallied-empty, tallied-most, tallied-more, waits-short}
 

@@ -11,7 +11,7 @@ use Rattle.model.specs.State.{State}
 use Rattle.model.specs.Ranges.{fits-32}
 use Rattle.model.specs.Sound.{ids-in-range, field-ranges, fields-in-range, shaped}
 use Rattle.model.specs.Sound.{clauses, sound-but-choice, sound, choice-fits}
-use Rattle.model.specs.Layout.{Rows, view, orderly, sound-table}
+use Rattle.model.specs.Before.{Rows, view, orderly, sound-table}
 use Rattle.soundness.specs.Whole.{ready-fits, waits-fit, lists-fit, members-fit, threads-fit, records-fit, member-clauses, thread-clauses, record-clauses}
 use Rattle.soundness.specs.Shape.{Shape}
 use Rattle.soundness.proofs.ListLaws.{OrderlyLists, shape-shaped, lists-orderly, lists-pass}

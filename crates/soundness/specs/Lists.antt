@@ -10,7 +10,7 @@ use Rattle.model.specs.declared.tables.Thread.{Thread}
 use Rattle.model.specs.declared.tables.IdList.{IdList}
 use Rattle.model.specs.State.{thread-count}
 use Rattle.model.specs.Sound.{ids-in-range}
-use Rattle.model.specs.Layout.{row-orderly, thread-at}
+use Rattle.model.specs.Before.{row-orderly, thread-at}
 use Rattle.model.specs.Words.{holds}
 
 -- one list as it is stored: room, zeros past its end, and threads' ids before it

@@ -3,7 +3,7 @@ use mathlib.Core.Path.{_≡_}
 use lib.ListN.{length}
 use Rattle.model.specs.declared.tables.Table.{Table}
 use Rattle.model.specs.State.{list-count}
-use Rattle.model.specs.Layout.{Rows}
+use Rattle.model.specs.Before.{Rows}
 
 pub record Shape (t : Table) (beside : Rows) : Type 0 where
   pub threads : length (t .threads) ≡ 16

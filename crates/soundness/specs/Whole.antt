@@ -11,7 +11,7 @@ use Rattle.model.specs.Sound.{each-on-one-list, absent-threads-zero, ready-by-p
 use Rattle.model.specs.Sound.{unowned-written-zero, awaited-mutexes-owned, owners-created, owners-wait-elsewhere, conditions-unmet, flag-waiters-masked}
 use Rattle.model.specs.Sound.{timers-within-period, unused-timers-zero, actions-fit, sleepers-limited, others-unlimited, others-maskless, waits-without-result}
 use Rattle.model.specs.Sound.{quanta-fit, absent-semaphores-zero, absent-mutexes-zero, absent-flags-zero}
-use Rattle.model.specs.Layout.{Rows, list-at}
+use Rattle.model.specs.Before.{Rows, list-at}
 use Rattle.soundness.specs.Lists.{list-fits, wait-list-fits}
 
 -- every list as it is stored

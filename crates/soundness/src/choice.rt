@@ -2,7 +2,7 @@
 ghost use mathlib.Core.Path.{_≡_};
 ghost use Rattle.sequences.specs.Lists.{among-any, take-each};
 ghost use Rattle.rows.specs.Row.{Rows};
-ghost use Rattle.model.specs.Layout.{view};
+ghost use Rattle.model.specs.Before.{view};
 ghost use Rattle.model.specs.Sound.{choice-fits};
 use model::tables::NOBODY;
 use model::tables::Table;

@@ -2,7 +2,7 @@
 // is walked only once its length and its ids are known to be in range.
 ghost use mathlib.Core.Path.{_≡_};
 ghost use mathlib.Core.Bool.{true, _&&_};
-ghost use Rattle.model.specs.Layout.{view, sound-table};
+ghost use Rattle.model.specs.Before.{view, sound-table};
 ghost use Rattle.soundness.specs.Shape.{Shape};
 ghost use Rattle.soundness.specs.Whole.{lists-fit, members-fit, threads-fit, records-fit};
 use model::lists::FLAGS_LIST;

@@ -3,7 +3,7 @@ ghost use mathlib.Core.Path.{_≡_};
 ghost use mathlib.Core.List.{[]};
 ghost use lib.ListN.{getD};
 ghost use Rattle.sequences.specs.Lists.{every-below};
-ghost use Rattle.model.specs.Layout.{list-at};
+ghost use Rattle.model.specs.Before.{list-at};
 ghost use Rattle.soundness.specs.Lists.{list-fits, wait-list-fits, tops};
 use model::lists::LIST_COUNT;
 use model::tables::IdList;

@@ -5,7 +5,7 @@ ghost use Prim.Native.Nat.{_+_};
 ghost use lib.ListN.{getD};
 ghost use Rattle.sequences.specs.Lists.{every-below, among};
 ghost use Rattle.model.specs.State.{absent-semaphore, absent-mutex, absent-flags};
-ghost use Rattle.model.specs.Layout.{ids-of, list-at, thread-at};
+ghost use Rattle.model.specs.Before.{ids-of, list-at, thread-at};
 ghost use Rattle.soundness.specs.Lists.{wait-list-fits};
 ghost use Rattle.soundness.specs.Records.{semaphore-fits, mutex-fits, flags-fit};
 use model::lists::FLAGS_LIST;

@@ -7,7 +7,7 @@ ghost use Rattle.sequences.specs.Lists.{every-below};
 ghost use Rattle.model.specs.Ranges.{_implies_};
 ghost use Rattle.model.specs.Sound.{thread-in-range, zero-thread};
 ghost use Rattle.table.specs.Owners.{owns-one-of};
-ghost use Rattle.model.specs.Layout.{thread-at};
+ghost use Rattle.model.specs.Before.{thread-at};
 ghost use Rattle.soundness.specs.Records.{thread-fits};
 use model::modes::ALL_CLEAR;
 use model::tables::Mutex;

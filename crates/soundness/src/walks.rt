@@ -7,7 +7,7 @@ ghost use lib.ListN.{take, getD};
 ghost use lib.Seq.{slice};
 ghost use Rattle.sequences.specs.Lists.{every-below, take-each};
 ghost use Rattle.model.specs.State.{absent-flags};
-ghost use Rattle.model.specs.Layout.{ids-of, list-at};
+ghost use Rattle.model.specs.Before.{ids-of, list-at};
 ghost use Rattle.soundness.specs.Lists.{list-fits, wait-list-fits, member-fits, list-asks, of-ready, of-flags, CountsUpTo, Walked};
 use model::lists::FLAGS_LIST;
 use model::modes::ALL_CLEAR;

@@ -13,7 +13,7 @@ use Rattle.rows.specs.Row.{Row}
 use Rattle.rows.proofs.Rows.{held}
 use Rattle.model.specs.State.{State}
 use Rattle.model.specs.Sound.{sound-but-choice, choice-fits, sound}
-use Rattle.model.specs.Layout.{list-at, laid-list, lay-table, lay-rows, sound-table}
+use Rattle.model.specs.Before.{list-at, laid-list, lay-table, lay-rows, sound-table}
 use Rattle.placed.proofs.Standing.{short-ready, short-list}
 use Rattle.placed.proofs.Sounds.{size, sound-placed}
 use Rattle.table.specs.Orderly.{Orderly}

@@ -10,8 +10,8 @@ use Rattle.sequences.proofs.Searches.{first-at-most}
 use Rattle.model.specs.declared.tables.Table.{Table}
 use Rattle.model.specs.Parts.{with-waits}
 use Rattle.model.specs.Words.{leave}
-use Rattle.model.specs.Layout as layout
-use Rattle.model.specs.Layout.{view, ids-of, list-at}
+use Rattle.model.specs.Before as layout
+use Rattle.model.specs.Before.{view, ids-of, list-at}
 use Rattle.placed.proofs.Leaving.{leave-from-list}
 use Rattle.table.specs.Orderly.{Given, Meets, Does}
 use Rattle.table.proofs.Views.{does, same-word, list-view}

@@ -19,8 +19,8 @@ use Rattle.model.specs.declared.tables.Thread.{Thread}
 use Rattle.model.specs.declared.tables.Table.{Table}
 use Rattle.model.specs.Parts.{with-ready}
 use Rattle.model.specs.Words.{is-ready, leave, enter-ready}
-use Rattle.model.specs.Layout as layout
-use Rattle.model.specs.Layout.{view, thread-at}
+use Rattle.model.specs.Before as layout
+use Rattle.model.specs.Before.{view, thread-at}
 use Rattle.placed.proofs.Leaving.{ready-level, leave-from-ready}
 use Rattle.table.specs.Orderly.{Orderly, Given, Does}
 use Rattle.table.proofs.Views.{table-lengths, stored-row, same-word}

@@ -7,8 +7,8 @@ use Rattle.model.specs.declared.tables.Table.{Table}
 use Rattle.model.specs.State.{State}
 use Rattle.model.specs.Parts.{alter-thread, with-current}
 use Rattle.model.specs.Words.{is-ready, is-waiting, list-of, leave, become-ready, enter-ready, enter-by-priority, re-enter}
-use Rattle.model.specs.Layout as layout
-use Rattle.model.specs.Layout.{view}
+use Rattle.model.specs.Before as layout
+use Rattle.model.specs.Before.{view}
 use Rattle.placed.proofs.Standing.{leave-gone, leave-placed, unready-placed}
 use Rattle.table.specs.Orderly.{Given, Meets, Does}
 use Rattle.table.proofs.Rooms.{Off, off-after}

@@ -12,7 +12,7 @@ use Rattle.model.specs.declared.tables.Timer.{Timer}
 use Rattle.model.specs.declared.tables.Table.{Table}
 use Rattle.model.specs.State.{absent-thread, absent-semaphore, absent-mutex, absent-flags, unused-timer}
 use Rattle.model.specs.Parts.{with-threads, with-semaphores, with-mutexes, with-flags, with-timers, alter-thread, alter-semaphore, alter-mutex, alter-flags, alter-timer}
-use Rattle.model.specs.Layout.{view}
+use Rattle.model.specs.Before.{view}
 use Rattle.table.specs.Orderly.{Meets}
 use Rattle.table.proofs.Views.{meets-word}
 

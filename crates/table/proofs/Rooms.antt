@@ -8,8 +8,8 @@ use Rattle.model.specs.declared.tables.Table.{Table}
 use Rattle.model.specs.State.{State}
 use Rattle.model.specs.Parts.{list, alter-thread, with-wait}
 use Rattle.model.specs.Words.{leave, suspend}
-use Rattle.model.specs.Layout as layout
-use Rattle.model.specs.Layout.{view, list-at, thread-at}
+use Rattle.model.specs.Before as layout
+use Rattle.model.specs.Before.{view, list-at, thread-at}
 use Rattle.placed.specs.Placed.{Placed, standing}
 use Rattle.placed.proofs.Standing.{room-ready, room-list, leave-gone, leave-placed, alter-placed}
 use Rattle.table.specs.Orderly.{Whole, Given, Ranked, Does}

@@ -16,8 +16,8 @@ use Rattle.model.specs.declared.tables.IdList.{IdList}
 use Rattle.model.specs.declared.tables.Table.{Table}
 use Rattle.model.specs.State.{State}
 use Rattle.model.specs.Sound.{sizes, shaped, sound-but-choice, choice-fits, sound}
-use Rattle.model.specs.Layout as layout
-use Rattle.model.specs.Layout.{view, ids-of, no-ids, laid-list, lay-table, lay-rows, row-orderly, orderly, sound-table, list-at}
+use Rattle.model.specs.Before as layout
+use Rattle.model.specs.Before.{view, ids-of, no-ids, laid-list, lay-table, lay-rows, row-orderly, orderly, sound-table, list-at}
 use Rattle.placed.proofs.Sounds.{sound-placed}
 use Rattle.table.specs.Orderly.{Orderly, Whole, Given}
 

@@ -11,8 +11,8 @@ use Rattle.rows.proofs.Rows.{length-held}
 use Rattle.model.specs.declared.tables.IdList.{IdList}
 use Rattle.model.specs.declared.tables.Table.{Table}
 use Rattle.model.specs.Parts.{list}
-use Rattle.model.specs.Layout as layout
-use Rattle.model.specs.Layout.{view, ids-of, list-at}
+use Rattle.model.specs.Before as layout
+use Rattle.model.specs.Before.{view, ids-of, list-at}
 use Rattle.placed.specs.Placed.{standing}
 use Rattle.placed.proofs.Standing.{standing-below}
 use Rattle.table.specs.Orderly.{Whole}

@@ -21,8 +21,8 @@ use Rattle.model.specs.State.{State, absent-thread, absent-semaphore, absent-mu
 use Rattle.model.specs.Parts.{thread, list, with-threads, with-semaphores, with-mutexes, with-flags, with-timers, with-waits, with-ready}
 use Rattle.model.specs.Parts.{with-chosen, alter-thread, alter-semaphore, alter-mutex, alter-flags, alter-timer}
 use Rattle.model.specs.Words.{rank}
-use Rattle.model.specs.Layout as layout
-use Rattle.model.specs.Layout.{view, ids-of, no-ids, list-at, thread-at}
+use Rattle.model.specs.Before as layout
+use Rattle.model.specs.Before.{view, ids-of, no-ids, list-at, thread-at}
 use Rattle.table.specs.Orderly.{Listed, OrderlyTable, Orderly, Meets, Does}
 
 -- ---- the table with one part anew

@@ -8,8 +8,8 @@ use Rattle.model.specs.declared.tables.Thread.{Thread}
 use Rattle.model.specs.declared.tables.Table.{Table}
 use Rattle.model.specs.State.{absent-thread}
 use Rattle.model.specs.Parts.{alter-thread}
-use Rattle.model.specs.Layout as layout
-use Rattle.model.specs.Layout.{view, thread-at}
+use Rattle.model.specs.Before as layout
+use Rattle.model.specs.Before.{view, thread-at}
 use Rattle.placed.proofs.Standing.{alter-placed}
 use Rattle.table.specs.Orderly.{Given, Does}
 use Rattle.table.proofs.Rooms.{given-after}

@@ -13,8 +13,8 @@ use Rattle.model.specs.declared.tables.Timer.{Timer}
 use Rattle.model.specs.declared.tables.IdList.{IdList}
 use Rattle.model.specs.declared.tables.Table.{Table}
 use Rattle.model.specs.State.{State, thread-count, priority-count, semaphore-count, mutex-count, flags-count, timer-count, list-count, places}
-use Rattle.model.specs.Layout as layout
-use Rattle.model.specs.Layout.{view, list-at}
+use Rattle.model.specs.Before as layout
+use Rattle.model.specs.Before.{view, list-at}
 use Rattle.placed.specs.Placed.{Placed}
 
 -- a stored list that holds these ids

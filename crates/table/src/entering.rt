@@ -4,7 +4,7 @@ ghost use Prim.Native.Nat.{ℕ, _<_, _≤_};
 ghost use lib.Dec.{ltb};
 ghost use lib.ListN.{getD, take};
 ghost use Rattle.sequences.specs.Lists.{first-at};
-ghost use Rattle.model.specs.Layout.{Rows, view, list-at, thread-at};
+ghost use Rattle.model.specs.Before.{Rows, view, list-at, thread-at};
 ghost use Rattle.model.specs.Words.{enter-tail, enter-ready, rank, enter-by-priority};
 ghost use Rattle.table.specs.Orderly.{OrderlyTable, Orderly, Ranked, Meets, Does};
 use crate::lists;

@@ -2,7 +2,7 @@
 ghost use mathlib.Core.Path.{_≡_};
 ghost use mathlib.Core.List.{[]};
 ghost use Rattle.model.specs.State.{absent-thread, absent-semaphore, absent-mutex, absent-flags, unused-timer};
-ghost use Rattle.model.specs.Layout.{laid-list, fresh-table, fresh-rows};
+ghost use Rattle.model.specs.Before.{laid-list, fresh-table, fresh-rows};
 use model::tables::Flags;
 use model::tables::IdList;
 use model::tables::Mutex;

@@ -5,7 +5,7 @@ ghost use mathlib.Core.List.{map};
 ghost use Prim.Native.Nat.{_<_, _≤_};
 ghost use Rattle.sequences.specs.Lists.{alter, without, count, count-all};
 ghost use Rattle.model.specs.Parts.{with-waits};
-ghost use Rattle.model.specs.Layout.{view, ids-of, list-at};
+ghost use Rattle.model.specs.Before.{view, ids-of, list-at};
 ghost use Rattle.model.specs.Words.{is-ready, leave};
 ghost use Rattle.table.specs.Orderly.{OrderlyTable, Given, Meets, Does};
 use crate::lists;

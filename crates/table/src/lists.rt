@@ -4,7 +4,7 @@ ghost use Prim.Native.Nat.{_<_, _≤_};
 ghost use lib.ListN.{length};
 ghost use Rattle.sequences.specs.Lists.{snoc, insert-at, without, among, count};
 ghost use Rattle.rows.specs.Row.{Row};
-ghost use Rattle.model.specs.Layout.{ids-of};
+ghost use Rattle.model.specs.Before.{ids-of};
 ghost use Rattle.table.specs.Orderly.{Listed};
 use model::tables::IdList;
 

@@ -3,7 +3,7 @@
 ghost use Prim.Native.Nat.{_<_};
 ghost use mathlib.Core.Path.{_≡_};
 ghost use mathlib.Core.Bool.{true, false};
-ghost use Rattle.model.specs.Layout.{view};
+ghost use Rattle.model.specs.Before.{view};
 ghost use Rattle.model.specs.Parts.{alter-thread, with-current};
 ghost use Rattle.model.specs.Words.{is-ready, re-enter, take-priority};
 ghost use Rattle.table.specs.Orderly.{Given, Does};

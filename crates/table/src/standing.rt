@@ -5,7 +5,7 @@ ghost use Prim.Native.Nat.{ℕ, _<_};
 ghost use lib.ListN.{getD};
 ghost use Rattle.sequences.specs.Lists.{among, first-at};
 ghost use Rattle.rows.specs.Row.{Row};
-ghost use Rattle.model.specs.Layout.{Rows, view, ids-of, no-ids};
+ghost use Rattle.model.specs.Before.{Rows, view, ids-of, no-ids};
 ghost use Rattle.model.specs.Words.{is-ready, is-stopped};
 ghost use Rattle.model.specs.Sound.{waited-for};
 ghost use Rattle.table.specs.Orderly.{OrderlyTable, Given};

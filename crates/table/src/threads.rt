@@ -2,7 +2,7 @@
 ghost use mathlib.Core.Path.{_≡_};
 ghost use Prim.Native.Nat.{_<_};
 ghost use Rattle.model.specs.Parts.{alter-thread, with-base, with-current, with-quantum, with-left, with-wait, with-result, with-delivered};
-ghost use Rattle.model.specs.Layout.{thread-at};
+ghost use Rattle.model.specs.Before.{thread-at};
 ghost use Rattle.table.specs.Orderly.{OrderlyTable, Meets};
 use model::tables::Table;
 use model::tables::Thread;

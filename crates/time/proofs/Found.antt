@@ -7,8 +7,8 @@ use Rattle.model.specs.declared.tables.Table.{Table}
 use Rattle.model.specs.State.{State, thread-count}
 use Rattle.model.specs.Words.{choose}
 use Rattle.model.specs.Time.{next}
-use Rattle.model.specs.Layout as layout
-use Rattle.model.specs.Layout.{view}
+use Rattle.model.specs.Before as layout
+use Rattle.model.specs.Before.{view}
 use Rattle.table.specs.Orderly.{Does}
 use Rattle.theorems.specs.Leap.{limit-leap}
 use Rattle.theorems.proofs.Skips.{running, times, limits}

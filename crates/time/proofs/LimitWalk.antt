@@ -14,8 +14,8 @@ use Rattle.model.specs.declared.tables.Table.{Table}
 use Rattle.model.specs.State.{State, absent-thread}
 use Rattle.model.specs.Parts.{thread, alter-thread, with-wait, with-limit}
 use Rattle.model.specs.Words.{sleeps, leave, enter-ready, become-ready, wake}
-use Rattle.model.specs.Layout as layout
-use Rattle.model.specs.Layout.{view, thread-at}
+use Rattle.model.specs.Before as layout
+use Rattle.model.specs.Before.{view, thread-at}
 use Rattle.table.specs.Orderly.{Whole, Does}
 use Rattle.table.proofs.Views.{table-threads, stored-thread, does, same-word}
 use Rattle.table.proofs.Rewriting.{rewritten-thread}

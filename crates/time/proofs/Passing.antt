@@ -12,8 +12,8 @@ use Rattle.model.specs.Parts.{with-clock}
 use Rattle.model.specs.Sound.{sound}
 use Rattle.model.specs.Tick.{wrap, quantum-counts, wakes}
 use Rattle.model.specs.Time.{after-ticks, wakeups-in, next}
-use Rattle.model.specs.Layout as layout
-use Rattle.model.specs.Layout.{view, orderly, sound-table}
+use Rattle.model.specs.Before as layout
+use Rattle.model.specs.Before.{view, orderly, sound-table}
 use Rattle.placed.proofs.Standing.{unmoved-placed}
 use Rattle.table.specs.Orderly.{Orderly, Whole, Meets, Does}
 use Rattle.table.proofs.Stored.{sound-whole}

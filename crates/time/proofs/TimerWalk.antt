@@ -16,8 +16,8 @@ use Rattle.model.specs.State.{State, unused-timer}
 use Rattle.model.specs.Parts.{timer, alter-timer, with-time}
 use Rattle.model.specs.Effects.{act}
 use Rattle.model.specs.Tick.{expired}
-use Rattle.model.specs.Layout as layout
-use Rattle.model.specs.Layout.{view}
+use Rattle.model.specs.Before as layout
+use Rattle.model.specs.Before.{view}
 use Rattle.placed.proofs.Standing.{unmoved-placed}
 use Rattle.table.specs.Orderly.{Whole, Does}
 use Rattle.table.proofs.Views.{table-timers, stored-timer, does, and-then, same-word}

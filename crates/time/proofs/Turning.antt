@@ -18,8 +18,8 @@ use Rattle.model.specs.declared.tables.Table.{Table}
 use Rattle.model.specs.State.{State}
 use Rattle.model.specs.Parts.{with-ready}
 use Rattle.model.specs.Words.{enter-ready, become-ready}
-use Rattle.model.specs.Layout as layout
-use Rattle.model.specs.Layout.{view, thread-at}
+use Rattle.model.specs.Before as layout
+use Rattle.model.specs.Before.{view, thread-at}
 use Rattle.placed.proofs.Leaving.{leave-from-ready}
 use Rattle.table.specs.Orderly.{Given, Does}
 use Rattle.table.proofs.Views.{table-lengths, stored-row, same-word}

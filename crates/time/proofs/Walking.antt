@@ -7,8 +7,8 @@ use Rattle.sequences.specs.Lists.{nearer}
 use Rattle.sequences.proofs.Walks.{Walk, walk-start, walk-next}
 use Rattle.model.specs.declared.tables.Table.{Table}
 use Rattle.model.specs.State.{State}
-use Rattle.model.specs.Layout as layout
-use Rattle.model.specs.Layout.{view}
+use Rattle.model.specs.Before as layout
+use Rattle.model.specs.Before.{view}
 use Rattle.placed.specs.Placed.{Placed}
 use Rattle.table.specs.Orderly.{Whole, Does}
 use Rattle.table.proofs.Rooms.{whole-then}

@@ -5,7 +5,7 @@ ghost use mathlib.Core.Bool.{true};
 ghost use Prim.Native.Nat.{_<_};
 ghost use Rattle.model.specs.Time.{after-ticks, wakeups-in, next};
 ghost use Rattle.model.specs.Kernel.{span, call};
-ghost use Rattle.model.specs.Layout.{view, sound-table, laid};
+ghost use Rattle.model.specs.Before.{view, sound-table, laid};
 ghost use Rattle.table.specs.Orderly.{Whole, Does};
 ghost use Rattle.theorems.specs.Leap.{leap};
 ghost use Rattle.time.specs.Armed.{Armed};

@@ -1,6 +1,6 @@
 // The quantum of the running thread (01, One tick, 2).
 ghost use Prim.Native.Nat.{_<_};
-ghost use Rattle.model.specs.Layout.{Rows};
+ghost use Rattle.model.specs.Before.{Rows};
 ghost use Rattle.table.specs.Orderly.{Whole, Does};
 ghost use Rattle.theorems.specs.Leap.{spend, quantum-leap};
 use crate::counters;

@@ -1,7 +1,7 @@
 // Quiet ticks at once: what runs is less by as many, and nothing else happens.
 ghost use mathlib.Core.Path.{_≡_};
 ghost use mathlib.Core.List.{map};
-ghost use Rattle.model.specs.Layout.{Rows};
+ghost use Rattle.model.specs.Before.{Rows};
 ghost use Rattle.table.specs.Orderly.{Whole, Does};
 ghost use Rattle.theorems.specs.Skip.{limit-less, time-less, skip};
 use crate::counters;

@@ -2,7 +2,7 @@
 use mathlib.Core.Path.{_≡_, sym, _∙_}
 use mathlib.Core.Bool.{true}
 use denote.Ref.{now}
-use Rattle.model.specs.Layout.{sound-table, call-by, call-table}
+use Rattle.model.specs.Before.{sound-table, call-by, call-table}
 use borrow.Author.Needs.{needs}
 use Rattle.entries.proofs.call.Statement.{statement}
 use Rattle.entries.proofs.call.Tie as tie

@@ -3,7 +3,7 @@ use mathlib.Core.Path.{_≡_, sym, _∙_, ap}
 use mathlib.Core.Bool.{Bool, true}
 use Rattle.model.specs.declared.answers.Answer.the-variants.{Done}
 use Rattle.model.specs.Answers.{report}
-use Rattle.model.specs.Layout.{view, sound-table}
+use Rattle.model.specs.Before.{view, sound-table}
 use Rattle.model.specs.Stored.{next-told-by, next-told}
 use Rattle.table.proofs.Stored.{sound-whole}
 use borrow.Author.Needs.{needs}

@@ -3,7 +3,7 @@ use mathlib.Core.Path.{_≡_, refl}
 use native.Mathlib.Omega.{arith}
 use denote.Ref.{now}
 use Rattle.model.specs.Calls.{calls, numbered, scheduling}
-use Rattle.model.specs.Layout.{view}
+use Rattle.model.specs.Before.{view}
 use Rattle.table.specs.Orderly.{Orderly}
 use Rattle.table.proofs.Stored.{sound-whole}
 use Rattle.table.proofs.Views.{does}

@@ -6,7 +6,7 @@ use denote.Ref.{now}
 use Rattle.model.specs.Answers.{accepted}
 use Rattle.model.specs.Calls.{numbered}
 use Rattle.model.specs.Kernel.{judge, perform, next-state}
-use Rattle.model.specs.Layout.{view}
+use Rattle.model.specs.Before.{view}
 use Rattle.table.proofs.Stored.{sound-whole}
 use Rattle.table.proofs.Views.{same-word}
 use Rattle.kernel.proofs.Numbered.{call-number}

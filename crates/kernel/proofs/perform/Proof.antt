@@ -4,7 +4,7 @@ use mathlib.Core.Bool.{true}
 use denote.Ref.{now}
 use Rattle.model.specs.Calls.{numbered}
 use Rattle.model.specs.Kernel.{perform}
-use Rattle.model.specs.Layout.{view}
+use Rattle.model.specs.Before.{view}
 use Rattle.table.proofs.Views.{and-then, same-word}
 use Rattle.kernel.proofs.Numbered.{performed}
 use borrow.Author.Needs.{needs}

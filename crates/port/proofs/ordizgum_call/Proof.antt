@@ -10,7 +10,7 @@ use Rattle.sequences.proofs.Numbers.{bytes-of}
 use Rattle.model.specs.declared.answers.Report.{Report}
 use Rattle.model.specs.declared.tables.Table.{Table}
 use Rattle.model.specs.Answers.{accepted}
-use Rattle.model.specs.Layout.{Rows, Laid, call-table}
+use Rattle.model.specs.Before.{Rows, Laid, call-table}
 use Rattle.model.specs.Stored.{called}
 use Rattle.image.specs.Image.{image-of}
 use Rattle.port.specs.Port.{stored-in, asked, report-of, report-numbers, image-after}

@@ -2,7 +2,7 @@
 use mathlib.Core.Path.{_≡_, sym, _∙_, ap₂}
 use lib.ListN.{length}
 use borrow.Author.Tests.{eq-eqb, ne-eqb}
-use Rattle.model.specs.Layout.{sound-table}
+use Rattle.model.specs.Before.{sound-table}
 use Rattle.port.specs.Port.{sound-image}
 use Rattle.port.proofs.Images.{wrong-length, sound-as-table}
 use borrow.Author.Needs.{needs}

@@ -1,6 +1,6 @@
 -- Outside 1 to 22 there is no call; inside, each range of numbers is one family's.
 use Rattle.model.specs.Kernel.{judge}
-use Rattle.model.specs.Layout.{view}
+use Rattle.model.specs.Before.{view}
 use Rattle.table.specs.Orderly.{OrderlyTable}
 use Rattle.table.proofs.Stored.{sound-whole}
 use Rattle.refusals.proofs.ByNumber.{no-call, call-in-range}

@@ -2,7 +2,7 @@
 use mathlib.Core.Path.{_∙_}
 use mathlib.Core.Bool.{and-assoc, and-true}
 use Rattle.sequences.proofs.Tests.{right}
-use Rattle.model.specs.Layout.{view}
+use Rattle.model.specs.Before.{view}
 use Rattle.soundness.specs.Whole.{ready-fits, waits-fit, lists-fit, records-fit}
 use Rattle.soundness.proofs.ObjectLaws.{semaphores-by-clauses, mutexes-by-clauses, flags-by-clauses}
 use Rattle.soundness.proofs.TimerLaws.{timers-by-clauses}

@@ -9,7 +9,7 @@ use borrow.Author.Needs.{needs}
 use lib.ListN.{replicate, getD-replicate}
 use lib.Seq.{slice}
 use Rattle.sequences.proofs.Tests.{left, right}
-use Rattle.model.specs.Layout.{ids-of}
+use Rattle.model.specs.Before.{ids-of}
 use Rattle.soundness.specs.Lists.{CountsUpTo, Tallied}
 use Rattle.soundness.specs.Whole.{ready-fits, waits-fit, lists-fit, threads-fit}
 use Rattle.soundness.proofs.Counting.{up-to-more, waits-small}

@@ -4,7 +4,7 @@ use Prim.Native.Nat.{ℕ}
 use denote.Ref.{now}
 use Rattle.model.specs.State.{State}
 use Rattle.model.specs.Words.{settle}
-use Rattle.model.specs.Layout.{view}
+use Rattle.model.specs.Before.{view}
 use Rattle.table.specs.Orderly.{Whole}
 use Rattle.table.proofs.Views.{and-then, same-word}
 use Rattle.table.proofs.Rooms.{whole-then}

@@ -4,7 +4,7 @@ use native.Mathlib.Omega.{arith}
 use denote.Ref.{now}
 use Rattle.sequences.proofs.Tests.{left, right}
 use Rattle.model.specs.Sound.{sound}
-use Rattle.model.specs.Layout.{view, orderly, sound-table}
+use Rattle.model.specs.Before.{view, orderly, sound-table}
 use Rattle.table.proofs.Stored.{sound-whole}
 use Rattle.time.proofs.Passing.{Passing, passing-start, passing-whole, passing-armed, passing-room, passing-turn, passed}
 use borrow.Author.Needs.{needs}

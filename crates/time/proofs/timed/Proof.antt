@@ -6,7 +6,7 @@ use Rattle.model.specs.declared.answers.Answer.{Answer}
 use Rattle.model.specs.State.{State}
 use Rattle.model.specs.Time.{after-ticks, wakeups-in}
 use Rattle.model.specs.Kernel.{next-state, span}
-use Rattle.model.specs.Layout.{view}
+use Rattle.model.specs.Before.{view}
 use Rattle.table.specs.Orderly.{Does}
 use Rattle.table.proofs.Views.{same-word}
 use Rattle.theorems.proofs.Spanned.{spanned}

@@ -5,7 +5,7 @@ use Prim.Native.Nat.{ℕ}
 use Rattle.sequences.specs.Bytes.{four-bytes, flat, joined}
 use Rattle.sequences.proofs.Behind.{all-put}
 use Rattle.model.specs.declared.tables.Table.{Table}
-use Rattle.model.specs.Layout.{Rows}
+use Rattle.model.specs.Before.{Rows}
 use Rattle.image.specs.Image.{thread-bytes, semaphore-bytes, mutex-bytes, flags-bytes, timer-bytes, list-bytes, image-of}
 use borrow.Author.Needs.{needs}
 use Rattle.image.proofs.writing.write.Statement.{statement}

@@ -7,8 +7,8 @@ use Rattle.model.specs.declared.tables.Table.{Table}
 use Rattle.model.specs.State.{absent-flags, flags-list}
 use Rattle.model.specs.Parts.{alter-flags, with-word}
 use Rattle.model.specs.Effects.{wake-each, met, change-word}
-use Rattle.model.specs.Layout as layout
-use Rattle.model.specs.Layout.{view, ids-of, list-at}
+use Rattle.model.specs.Before as layout
+use Rattle.model.specs.Before.{view, ids-of, list-at}
 use Rattle.placed.proofs.Standing.{unmoved-placed}
 use Rattle.table.specs.Orderly.{Meets, Does}
 use Rattle.table.specs.Orderly.{Whole}

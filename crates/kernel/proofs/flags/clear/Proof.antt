@@ -8,7 +8,7 @@ use Rattle.sequences.proofs.Tests.{left}
 use Rattle.model.specs.Ranges.{is-positive-16}
 use Rattle.model.specs.Calls.{answers, clear, unused-bcd}
 use Rattle.model.specs.Effects.{clear-effect}
-use Rattle.model.specs.Layout.{view}
+use Rattle.model.specs.Before.{view}
 use Rattle.refusals.proofs.InRange.{positive-fits}
 use Rattle.kernel.proofs.Facts.{whole, flags-named, not-due}
 use borrow.Author.Needs.{needs}

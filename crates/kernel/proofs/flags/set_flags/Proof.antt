@@ -1,6 +1,6 @@
 -- The word that was read is the model's.
 use Rattle.model.specs.Effects.{set-flags}
-use Rattle.model.specs.Layout.{view}
+use Rattle.model.specs.Before.{view}
 use borrow.Author.Needs.{needs}
 use Rattle.kernel.proofs.flags.set_flags.Statement.{statement}
 use Rattle.kernel.proofs.flags.set_flags.Tie as tie

@@ -17,8 +17,8 @@ use Rattle.model.specs.Parts.{alter-thread, with-threads, with-result, with-del
 use Rattle.model.specs.Words.{start-to-wait, holds}
 use Rattle.model.specs.Calls.{answers, wait}
 use Rattle.model.specs.Effects.{wait-effect}
-use Rattle.model.specs.Layout as layout
-use Rattle.model.specs.Layout.{view}
+use Rattle.model.specs.Before as layout
+use Rattle.model.specs.Before.{view}
 use Rattle.table.specs.Orderly.{Meets, Does}
 use Rattle.table.specs.Orderly.{Whole}
 use Rattle.table.proofs.Views.{does, then, same-word}

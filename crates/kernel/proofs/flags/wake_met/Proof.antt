@@ -7,8 +7,8 @@ use Rattle.model.specs.declared.tables.Thread.{Thread}
 use Rattle.model.specs.declared.tables.Table.{Table}
 use Rattle.model.specs.Parts.{thread, with-delivered}
 use Rattle.model.specs.Words.{holds}
-use Rattle.model.specs.Layout as layout
-use Rattle.model.specs.Layout.{view, thread-at}
+use Rattle.model.specs.Before as layout
+use Rattle.model.specs.Before.{view, thread-at}
 use Rattle.placed.proofs.Standing.{alter-placed}
 use Rattle.table.proofs.Rooms.{given-after}
 use Rattle.table.proofs.Views.{does, and-then, same-word}

@@ -17,7 +17,7 @@ use Rattle.model.specs.Words.{start-to-wait}
 use Rattle.model.specs.Sound.{mutex-in-range}
 use Rattle.model.specs.Calls.{answers, claim, claim-waits}
 use Rattle.model.specs.Effects.{claim-effect}
-use Rattle.model.specs.Layout.{view}
+use Rattle.model.specs.Before.{view}
 use Rattle.placed.specs.Placed.{Placed}
 use Rattle.placed.proofs.Entering.{start-to-wait-placed}
 use Rattle.table.proofs.Rooms.{given-after}

@@ -4,7 +4,7 @@ use denote.Ref.{now}
 use Rattle.model.specs.declared.tables.Thread.{Thread}
 use Rattle.model.specs.Words.{take-priority}
 use Rattle.model.specs.Effects.{fall}
-use Rattle.model.specs.Layout.{view}
+use Rattle.model.specs.Before.{view}
 use Rattle.table.proofs.Views.{same-word}
 use borrow.Author.Needs.{needs}
 use Rattle.kernel.proofs.mutexes.fall.Statement.{statement}

@@ -8,7 +8,7 @@ use lib.ListN.{getD}
 use Rattle.model.specs.State.{State, mutex-list}
 use Rattle.model.specs.Parts.{list, with-owner}
 use Rattle.model.specs.Effects.{hand-over}
-use Rattle.model.specs.Layout.{view, list-at}
+use Rattle.model.specs.Before.{view, list-at}
 use Rattle.placed.proofs.Standing.{unmoved-placed}
 use Rattle.table.proofs.Rooms.{given-after}
 use Rattle.table.proofs.Views.{does, and-then, same-word}

@@ -7,7 +7,7 @@ use denote.Ref.{now}
 use Rattle.model.specs.declared.tables.Thread.{Thread}
 use Rattle.model.specs.Words.{take-priority}
 use Rattle.model.specs.Effects.{raise}
-use Rattle.model.specs.Layout.{view, thread-at}
+use Rattle.model.specs.Before.{view, thread-at}
 use Rattle.table.proofs.Views.{same-word}
 use borrow.Author.Needs.{needs}
 use Rattle.kernel.proofs.mutexes.raise.Statement.{statement}

@@ -14,7 +14,7 @@ use Rattle.model.specs.Words.{owns}
 use Rattle.model.specs.Sound.{thread-in-range}
 use Rattle.model.specs.Calls.{answers, release, nobody-runs}
 use Rattle.model.specs.Effects.{fall, hand-over, release-effect}
-use Rattle.model.specs.Layout.{view}
+use Rattle.model.specs.Before.{view}
 use Rattle.placed.specs.Placed.{Placed}
 use Rattle.placed.proofs.Entering.{take-priority-placed}
 use Rattle.table.proofs.Views.{does, and-then, same-word}

@@ -2,7 +2,7 @@
 use mathlib.Core.Path.{_∙_, ap₂}
 use Rattle.sequences.specs.Lists.{nearer}
 use Rattle.model.specs.Time.{next}
-use Rattle.model.specs.Layout.{view}
+use Rattle.model.specs.Before.{view}
 use borrow.Author.Needs.{needs}
 use Rattle.kernel.proofs.next.next_wake_up.Statement.{statement}
 use Rattle.kernel.proofs.next.next_wake_up.Tie as tie

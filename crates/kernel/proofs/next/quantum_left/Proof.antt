@@ -9,8 +9,8 @@ use Rattle.model.specs.declared.tables.Thread.{Thread}
 use Rattle.model.specs.declared.tables.Table.{Table}
 use Rattle.model.specs.Parts.{thread}
 use Rattle.model.specs.Tick.{quantum-counts}
-use Rattle.model.specs.Layout as layout
-use Rattle.model.specs.Layout.{view, thread-at}
+use Rattle.model.specs.Before as layout
+use Rattle.model.specs.Before.{view, thread-at}
 use Rattle.table.specs.Orderly.{Orderly}
 use borrow.Author.Needs.{needs}
 use Rattle.kernel.proofs.next.quantum_left.Statement.{statement}

@@ -7,7 +7,7 @@ use Rattle.model.specs.declared.tables.Semaphore.{Semaphore}
 use Rattle.model.specs.State.{absent-semaphore}
 use Rattle.model.specs.Parts.{with-semaphores, alter-semaphore}
 use Rattle.model.specs.Effects.{one-more}
-use Rattle.model.specs.Layout.{view}
+use Rattle.model.specs.Before.{view}
 use Rattle.table.proofs.Views.{untouched}
 use Rattle.table.proofs.Rewriting.{rewritten-semaphore}
 use borrow.Author.Needs.{needs}

@@ -11,8 +11,8 @@ use Rattle.model.specs.Parts.{with-count}
 use Rattle.model.specs.Words.{start-to-wait}
 use Rattle.model.specs.Calls.{answers, pend}
 use Rattle.model.specs.Effects.{pend-effect}
-use Rattle.model.specs.Layout as layout
-use Rattle.model.specs.Layout.{view}
+use Rattle.model.specs.Before as layout
+use Rattle.model.specs.Before.{view}
 use Rattle.table.proofs.Views.{then, does, same-word}
 use Rattle.table.proofs.Rewriting.{rewritten-semaphore}
 use Rattle.kernel.specs.Allowed.{Allowed}

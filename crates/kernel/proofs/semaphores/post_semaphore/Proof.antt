@@ -5,7 +5,7 @@ use Prim.Native.Nat.{ℕ, _+_, _<_}
 use native.Mathlib.Omega.{arith}
 use denote.Ref.{now}
 use Rattle.model.specs.Effects.{post-to, post-semaphore}
-use Rattle.model.specs.Layout.{view, list-at}
+use Rattle.model.specs.Before.{view, list-at}
 use Rattle.table.proofs.Views.{does, same-word}
 use Rattle.table.proofs.StoredLists.{listed-below, none-listed, first-listed}
 use borrow.Author.Needs.{needs}

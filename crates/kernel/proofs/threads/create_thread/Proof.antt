@@ -12,7 +12,7 @@ use Rattle.model.specs.Ranges.{is-priority, fits-16}
 use Rattle.model.specs.Words.{enter-tail}
 use Rattle.model.specs.Calls.{answers, unused-cd}
 use Rattle.model.specs.Effects.{create-thread-effect}
-use Rattle.model.specs.Layout.{view}
+use Rattle.model.specs.Before.{view}
 use Rattle.placed.specs.Placed.{standing}
 use Rattle.placed.proofs.Standing.{unready-placed}
 use Rattle.table.proofs.Rooms.{off-after, list-room}

@@ -7,7 +7,7 @@ use Rattle.model.specs.Parts.{alter-thread}
 use Rattle.model.specs.Words.{leave}
 use Rattle.model.specs.Calls.{answers}
 use Rattle.model.specs.Effects.{exit-effect}
-use Rattle.model.specs.Layout.{view}
+use Rattle.model.specs.Before.{view}
 use Rattle.table.proofs.Stored.{sound-given}
 use Rattle.table.proofs.Views.{does, and-then, same-word}
 use Rattle.kernel.proofs.Facts.{running-below, not-due}

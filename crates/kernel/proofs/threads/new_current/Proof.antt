@@ -8,7 +8,7 @@ use lib.Dec.{ltb}
 use Rattle.model.specs.declared.tables.Thread.{Thread}
 use Rattle.model.specs.declared.tables.Table.{Table}
 use Rattle.model.specs.Effects.{new-current}
-use Rattle.model.specs.Layout.{Rows, view, thread-at}
+use Rattle.model.specs.Before.{Rows, view, thread-at}
 use Rattle.table.specs.Owners.{owns-one-of}
 use Rattle.table.proofs.ByArray.{owns-any-one-of}
 use borrow.Author.Needs.{needs}

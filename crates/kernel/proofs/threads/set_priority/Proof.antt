@@ -12,7 +12,7 @@ use Rattle.model.specs.Ranges.{is-priority}
 use Rattle.model.specs.Words.{owns-any, take-priority}
 use Rattle.model.specs.Calls.{answers, unused-bcd}
 use Rattle.model.specs.Effects.{new-current, set-priority-effect}
-use Rattle.model.specs.Layout.{view}
+use Rattle.model.specs.Before.{view}
 use Rattle.placed.proofs.Standing.{alter-placed}
 use Rattle.table.specs.Orderly.{Given}
 use Rattle.table.proofs.Rooms.{given-after}

@@ -2,7 +2,7 @@
 use mathlib.Core.Path.{refl}
 use Rattle.model.specs.Calls.{answers}
 use Rattle.model.specs.Effects.{sleep-effect}
-use Rattle.model.specs.Layout.{view}
+use Rattle.model.specs.Before.{view}
 use Rattle.table.proofs.Stored.{sound-given}
 use Rattle.table.proofs.Views.{same-word}
 use Rattle.kernel.proofs.Facts.{running-below, not-due}

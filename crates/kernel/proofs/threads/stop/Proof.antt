@@ -5,7 +5,7 @@ use native.Mathlib.Omega.{arith}
 use denote.Ref.{now}
 use Rattle.model.specs.Calls.{answers}
 use Rattle.model.specs.Effects.{stop-effect}
-use Rattle.model.specs.Layout.{view}
+use Rattle.model.specs.Before.{view}
 use Rattle.placed.proofs.Standing.{leave-gone, leave-placed}
 use Rattle.table.specs.Orderly.{Given}
 use Rattle.table.proofs.Rooms.{off-after, list-room}

@@ -14,8 +14,8 @@ use Rattle.model.specs.Parts.{semaphore, flag-object}
 use Rattle.model.specs.Ranges.{is-bit, is-positive-32, names-object, action-in-range}
 use Rattle.model.specs.Calls.{answers, kind-of, object-of, start-timer}
 use Rattle.model.specs.Effects.{start-timer-effect}
-use Rattle.model.specs.Layout as layout
-use Rattle.model.specs.Layout.{view}
+use Rattle.model.specs.Before as layout
+use Rattle.model.specs.Before.{view}
 use Rattle.table.proofs.Rewriting.{rewritten-timer}
 use Rattle.theorems.proofs.Running.{named}
 use Rattle.refusals.proofs.InRange.{positive-fits}

@@ -2,7 +2,7 @@
 use mathlib.Core.Path.{_≡_}
 use Rattle.model.specs.Answers.{first-due}
 use Rattle.model.specs.Calls.{set, answers}
-use Rattle.model.specs.Layout.{Rows, view}
+use Rattle.model.specs.Before.{Rows, view}
 use borrow.Author.Needs.{needs}
 use Rattle.refusals.proofs.flags.change.Statement.{statement}
 use Rattle.refusals.proofs.flags.change.Tie as tie

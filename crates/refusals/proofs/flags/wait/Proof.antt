@@ -10,7 +10,7 @@ use Rattle.sequences.proofs.Tests.{left}
 use Rattle.model.specs.declared.requests.Request.{Request}
 use Rattle.model.specs.Ranges.{is-positive-16, fits-32}
 use Rattle.model.specs.Calls.{answers}
-use Rattle.model.specs.Layout.{view}
+use Rattle.model.specs.Before.{view}
 use Rattle.table.specs.Objects.{flags-there}
 use Rattle.refusals.proofs.InRange.{wait-fits}
 use borrow.Author.Needs.{needs}

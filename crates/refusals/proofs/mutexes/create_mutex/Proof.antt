@@ -1,6 +1,6 @@
 -- What is marked is what the model has as due.
 use Rattle.model.specs.Calls.{answers}
-use Rattle.model.specs.Layout.{view}
+use Rattle.model.specs.Before.{view}
 use borrow.Author.Needs.{needs}
 use Rattle.refusals.proofs.mutexes.create_mutex.Statement.{statement}
 use Rattle.refusals.proofs.mutexes.create_mutex.Tie as tie

@@ -6,7 +6,7 @@ use native.Mathlib.Omega.{arith}
 use borrow.Author.Tests.{not-false}
 use Rattle.sequences.proofs.Tests.{left}
 use Rattle.model.specs.Calls.{answers}
-use Rattle.model.specs.Layout.{view}
+use Rattle.model.specs.Before.{view}
 use Rattle.table.specs.Objects.{semaphore-there}
 use Rattle.refusals.proofs.InRange.{there-below}
 use borrow.Author.Needs.{needs}

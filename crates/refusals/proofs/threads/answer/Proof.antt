@@ -4,7 +4,7 @@ use Prim.Native.Nat.{_<_}
 use native.Mathlib.Omega.{arith}
 use Rattle.model.specs.Calls.{calls, numbered}
 use Rattle.model.specs.Kernel.{judge}
-use Rattle.model.specs.Layout.{view}
+use Rattle.model.specs.Before.{view}
 use Rattle.table.proofs.Stored.{sound-whole}
 use Rattle.refusals.proofs.ByNumber.{by-number}
 use borrow.Author.Needs.{needs}

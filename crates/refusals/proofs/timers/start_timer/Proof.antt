@@ -1,6 +1,6 @@
 -- What is marked is what the model has as due.
 use Rattle.model.specs.Calls.{kind-of, object-of, answers}
-use Rattle.model.specs.Layout.{view}
+use Rattle.model.specs.Before.{view}
 use Rattle.table.proofs.ByArray.{names-object-one-of}
 use borrow.Author.Needs.{needs}
 use Rattle.refusals.proofs.timers.start_timer.Statement.{statement}

@@ -7,7 +7,7 @@ use borrow.Author.Tests.{ne-eqb}
 use lib.Dec.{eqb}
 use Rattle.model.specs.State.{State, nobody}
 use Rattle.model.specs.Sound.{choice-fits}
-use Rattle.model.specs.Layout.{view}
+use Rattle.model.specs.Before.{view}
 use Rattle.model.specs.Words.{choice, is-ready}
 use Rattle.soundness.proofs.choice.choice_fits.Statement.{statement}
 use Rattle.soundness.proofs.choice.choice_fits.Tie as tie

@@ -11,7 +11,7 @@ use Rattle.sequences.proofs.Tests.{every-below-grown}
 use Rattle.model.specs.declared.tables.Flags.{Flags}
 use Rattle.model.specs.declared.tables.IdList.{IdList}
 use Rattle.model.specs.State.{absent-flags}
-use Rattle.model.specs.Layout.{list-at}
+use Rattle.model.specs.Before.{list-at}
 use Rattle.soundness.specs.Records.{flags-fit}
 use Rattle.soundness.proofs.objects.all_flags_fit.Statement.{statement}
 use Rattle.soundness.proofs.objects.all_flags_fit.Tie as tie

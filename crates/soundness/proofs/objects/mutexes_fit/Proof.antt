@@ -13,7 +13,7 @@ use Rattle.model.specs.declared.tables.Thread.{Thread}
 use Rattle.model.specs.declared.tables.Mutex.{Mutex}
 use Rattle.model.specs.declared.tables.IdList.{IdList}
 use Rattle.model.specs.State.{absent-mutex}
-use Rattle.model.specs.Layout.{ids-of, list-at, thread-at}
+use Rattle.model.specs.Before.{ids-of, list-at, thread-at}
 use Rattle.soundness.specs.Lists.{wait-list-fits}
 use Rattle.soundness.specs.Records.{mutex-fits}
 use Rattle.soundness.proofs.Fitting.{fitting}

@@ -11,7 +11,7 @@ use Rattle.sequences.proofs.Tests.{every-below-grown}
 use Rattle.model.specs.declared.tables.Semaphore.{Semaphore}
 use Rattle.model.specs.declared.tables.IdList.{IdList}
 use Rattle.model.specs.State.{absent-semaphore}
-use Rattle.model.specs.Layout.{list-at}
+use Rattle.model.specs.Before.{list-at}
 use Rattle.soundness.specs.Records.{semaphore-fits}
 use Rattle.soundness.proofs.objects.semaphores_fit.Statement.{statement}
 use Rattle.soundness.proofs.objects.semaphores_fit.Tie as tie

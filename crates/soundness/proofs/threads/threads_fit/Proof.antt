@@ -12,7 +12,7 @@ use Rattle.sequences.specs.Lists.{every-below}
 use Rattle.model.specs.declared.tables.Thread.{Thread}
 use Rattle.model.specs.declared.tables.Mutex.{Mutex}
 use Rattle.table.specs.Owners.{owns-one-of}
-use Rattle.model.specs.Layout.{thread-at}
+use Rattle.model.specs.Before.{thread-at}
 use Rattle.soundness.specs.Records.{thread-fits}
 use Rattle.soundness.proofs.Stopping.{one-passes, one-fails}
 use Rattle.soundness.proofs.threads.threads_fit.Statement.{statement}

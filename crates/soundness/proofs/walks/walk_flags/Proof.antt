@@ -13,7 +13,7 @@ use Rattle.model.specs.declared.tables.Thread.{Thread}
 use Rattle.model.specs.declared.tables.Flags.{Flags}
 use Rattle.model.specs.declared.tables.IdList.{IdList}
 use Rattle.model.specs.State.{absent-flags}
-use Rattle.model.specs.Layout.{ids-of, list-at}
+use Rattle.model.specs.Before.{ids-of, list-at}
 use Rattle.soundness.specs.Lists.{wait-list-fits, list-asks, of-flags}
 use Rattle.soundness.proofs.Asking.{nobody, nobody-asked}
 use Rattle.soundness.proofs.Counting.{up-to-more}

@@ -11,7 +11,7 @@ use lib.Seq.{slice}
 use Rattle.sequences.proofs.Tests.{every-below-at}
 use Rattle.model.specs.declared.tables.Thread.{Thread}
 use Rattle.model.specs.declared.tables.IdList.{IdList}
-use Rattle.model.specs.Layout.{ids-of, list-at}
+use Rattle.model.specs.Before.{ids-of, list-at}
 use Rattle.soundness.specs.Lists.{wait-list-fits, list-asks}
 use Rattle.soundness.proofs.Asking.{nobody, nobody-asked}
 use Rattle.soundness.proofs.Counting.{up-to-more}

@@ -11,8 +11,8 @@ use Rattle.model.specs.declared.tables.Thread.{Thread}
 use Rattle.model.specs.declared.tables.Table.{Table}
 use Rattle.model.specs.State.{nobody}
 use Rattle.model.specs.Parts.{with-threads, alter-thread, refilled}
-use Rattle.model.specs.Layout as layout
-use Rattle.model.specs.Layout.{view}
+use Rattle.model.specs.Before as layout
+use Rattle.model.specs.Before.{view}
 use Rattle.model.specs.Words.{choose}
 use Rattle.table.specs.Orderly.{Orderly, Meets, Does}
 use Rattle.table.proofs.Views.{table-chosen, changed-thread, stored-chosen, untouched, then, does, same-word}

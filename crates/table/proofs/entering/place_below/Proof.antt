@@ -1,5 +1,5 @@
 -- The search goes place by place: what it finds is found from place k on.
-use Rattle.model.specs.Layout.{thread-at}
+use Rattle.model.specs.Before.{thread-at}
 use mathlib.Core.Path.{_≡_, sym, _∙_}
 use mathlib.Core.Bool.{Bool}
 use mathlib.Core.List.{List}

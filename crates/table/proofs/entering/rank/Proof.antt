@@ -1,6 +1,6 @@
 -- The first place with a lower current priority is the model's rank.
 use mathlib.Core.Path.{_∙_}
-use Rattle.model.specs.Layout.{view}
+use Rattle.model.specs.Before.{view}
 use Rattle.model.specs.Words.{rank}
 use Rattle.table.proofs.Views.{list-view}
 use borrow.Author.Needs.{needs}

@@ -1,7 +1,7 @@
 -- The literal is the model's fresh state laid out, by computation.
 use borrow.Author.Needs.{needs}
 use Rattle.model.specs.State.{fresh}
-use Rattle.model.specs.Layout.{fresh-table, lay-table}
+use Rattle.model.specs.Before.{fresh-table, lay-table}
 use Rattle.table.proofs.fresh.fresh.Statement.{statement}
 use Rattle.table.proofs.fresh.fresh.Tie as tie
 

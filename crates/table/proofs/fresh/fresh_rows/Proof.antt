@@ -1,7 +1,7 @@
 -- Eight rows of zeros are the model's empty ready lists laid out, by computation.
 use mathlib.Core.Path.{refl}
 use Rattle.model.specs.State.{fresh}
-use Rattle.model.specs.Layout.{fresh-rows, lay-rows}
+use Rattle.model.specs.Before.{fresh-rows, lay-rows}
 use Rattle.table.proofs.fresh.fresh_rows.Statement.{statement}
 use Rattle.table.proofs.fresh.fresh_rows.Tie as tie
 

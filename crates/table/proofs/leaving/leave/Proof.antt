@@ -6,7 +6,7 @@ use denote.Ref.{now}
 use Rattle.sequences.specs.Lists.{count-all}
 use Rattle.sequences.proofs.Counts.{among-any-count}
 use Rattle.model.specs.Words.{leave}
-use Rattle.model.specs.Layout.{view}
+use Rattle.model.specs.Before.{view}
 use Rattle.placed.proofs.Leaving.{leave-from-other}
 use Rattle.table.proofs.Views.{does, same-word}
 use borrow.Author.Needs.{needs}

@@ -9,7 +9,7 @@ use Rattle.sequences.proofs.Counts.{count-all-at, first-list, no-list}
 use Rattle.sequences.proofs.Removal.{map-without-one, map-without-none}
 use Rattle.model.specs.State.{State}
 use Rattle.model.specs.Parts.{with-waits}
-use Rattle.model.specs.Layout.{view, ids-of, no-ids}
+use Rattle.model.specs.Before.{view, ids-of, no-ids}
 use Rattle.table.proofs.Views.{meets-word, untouched}
 use borrow.Author.Needs.{needs}
 use Rattle.table.proofs.leaving.leave_other.Statement.{statement}

@@ -9,7 +9,7 @@ use Rattle.sequences.proofs.Tests.{right}
 use Rattle.model.specs.State.{State}
 use Rattle.model.specs.Parts.{alter-thread, with-current}
 use Rattle.model.specs.Words.{list-of, leave, re-enter}
-use Rattle.model.specs.Layout.{view}
+use Rattle.model.specs.Before.{view}
 use Rattle.placed.proofs.Leaving.{waiting-list}
 use Rattle.table.specs.Orderly.{Does}
 use Rattle.table.proofs.Retaking.{retaken-off, re-enter-waiting, re-enter-other}

@@ -5,7 +5,7 @@ use denote.Ref.{now}
 use Rattle.model.specs.declared.tables.Table.{Table}
 use Rattle.model.specs.Parts.{alter-thread, with-current}
 use Rattle.model.specs.Words.{re-enter, take-priority}
-use Rattle.model.specs.Layout.{Rows, view}
+use Rattle.model.specs.Before.{Rows, view}
 use Rattle.table.specs.Orderly.{Does}
 use Rattle.table.proofs.Views.{same-word}
 use borrow.Author.Needs.{needs}

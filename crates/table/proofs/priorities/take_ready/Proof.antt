@@ -12,7 +12,7 @@ use Rattle.model.specs.declared.tables.Thread.{Thread}
 use Rattle.model.specs.State.{State, absent-thread}
 use Rattle.model.specs.Parts.{alter-thread, with-current}
 use Rattle.model.specs.Words.{leave, re-enter}
-use Rattle.model.specs.Layout.{view, thread-at}
+use Rattle.model.specs.Before.{view, thread-at}
 use Rattle.table.specs.Orderly.{Meets, Does}
 use Rattle.table.proofs.Ready.{priority-below, place-found, left-ready, entered-ready}
 use Rattle.table.proofs.Retaking.{retaken-off, re-enter-ready}

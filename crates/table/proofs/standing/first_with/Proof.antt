@@ -6,7 +6,7 @@ use native.Mathlib.Omega.{arith}
 use lib.ListN.{length, drop, length-map, List·getD-map}
 use Rattle.sequences.specs.Lists.{among, first-at}
 use Rattle.sequences.proofs.Searches.{first-step, first-hit, first-end}
-use Rattle.model.specs.Layout.{ids-of, no-ids}
+use Rattle.model.specs.Before.{ids-of, no-ids}
 use borrow.Author.Needs.{needs}
 use Rattle.table.proofs.standing.first_with.Statement.{statement}
 use Rattle.table.proofs.standing.first_with.Tie as tie

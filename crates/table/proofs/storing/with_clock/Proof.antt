@@ -1,6 +1,6 @@
 -- No list and no array is touched.
 use mathlib.Core.Path.{refl}
-use Rattle.model.specs.Layout.{view}
+use Rattle.model.specs.Before.{view}
 use Rattle.table.proofs.storing.with_clock.Statement.{statement}
 use Rattle.table.proofs.storing.with_clock.Tie as tie
 

@@ -11,8 +11,8 @@ use Rattle.model.specs.declared.tables.Thread.{Thread}
 use Rattle.model.specs.declared.tables.Table.{Table}
 use Rattle.model.specs.Parts.{with-wait}
 use Rattle.model.specs.Words.{is-ready, leave, enter-by-priority, suspend, start-to-wait}
-use Rattle.model.specs.Layout as layout
-use Rattle.model.specs.Layout.{view, list-at, thread-at}
+use Rattle.model.specs.Before as layout
+use Rattle.model.specs.Before.{view, list-at, thread-at}
 use Rattle.table.specs.Orderly.{OrderlyTable, Given, Ranked, Meets, Does}
 use Rattle.table.proofs.Ready.{found, priority-below, ready-if-found, place-found, left-ready}
 use Rattle.table.proofs.Rooms.{left-off, list-room, ranked}

@@ -3,7 +3,7 @@ use mathlib.Core.Path.{refl}
 use denote.Ref.{now}
 use Rattle.model.specs.Parts.{with-wait}
 use Rattle.model.specs.Words.{suspend}
-use Rattle.model.specs.Layout.{view}
+use Rattle.model.specs.Before.{view}
 use Rattle.placed.proofs.Standing.{alter-placed}
 use Rattle.table.proofs.Rooms.{given-after}
 use Rattle.table.proofs.Views.{does, and-then}

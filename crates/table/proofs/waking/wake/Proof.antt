@@ -12,8 +12,8 @@ use Rattle.model.specs.declared.tables.IdList.{IdList}
 use Rattle.model.specs.declared.tables.Table.{Table}
 use Rattle.model.specs.Parts.{with-wait}
 use Rattle.model.specs.Words.{become-ready, leave, wake}
-use Rattle.model.specs.Layout as layout
-use Rattle.model.specs.Layout.{ids-of, list-at, thread-at}
+use Rattle.model.specs.Before as layout
+use Rattle.model.specs.Before.{ids-of, list-at, thread-at}
 use Rattle.table.specs.Orderly.{Listed, Given, Does}
 use Rattle.table.proofs.OffList.{once-on, on-some, left-list}
 use Rattle.table.proofs.Ready.{priority-below, entered-ready}

@@ -4,7 +4,7 @@ use Prim.Native.Nat.{_-_, _≤_}
 use native.Mathlib.Omega.{arith}
 use Rattle.sequences.proofs.Walks.{walk-all}
 use Rattle.model.specs.State.{absent-thread}
-use Rattle.model.specs.Layout.{view}
+use Rattle.model.specs.Before.{view}
 use Rattle.theorems.specs.Leap.{limit-leap}
 use Rattle.theorems.proofs.LeapPlaced.{limit-leap-placed}
 use Rattle.time.proofs.Walking.{Turn, Walking, walking-start, walking-next}

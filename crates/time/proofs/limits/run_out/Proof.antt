@@ -7,8 +7,8 @@ use Rattle.sequences.specs.Lists.{among}
 use Rattle.model.specs.declared.tables.Table.{Table}
 use Rattle.model.specs.State.{sleep-list}
 use Rattle.model.specs.Words.{wake}
-use Rattle.model.specs.Layout as layout
-use Rattle.model.specs.Layout.{view, ids-of, list-at}
+use Rattle.model.specs.Before as layout
+use Rattle.model.specs.Before.{view, ids-of, list-at}
 use Rattle.table.specs.Orderly.{Does}
 use Rattle.table.proofs.Views.{list-view, same-word}
 use Rattle.theorems.specs.Leap.{run-out}

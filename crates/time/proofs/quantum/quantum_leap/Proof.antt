@@ -6,7 +6,7 @@ use native.Mathlib.Omega.{arith}
 use denote.Ref.{now}
 use Rattle.model.specs.State.{State}
 use Rattle.model.specs.Parts.{with-left, refilled}
-use Rattle.model.specs.Layout.{view, thread-at}
+use Rattle.model.specs.Before.{view, thread-at}
 use Rattle.table.specs.Orderly.{Given}
 use Rattle.table.proofs.Views.{and-then, same-word}
 use Rattle.table.proofs.Written.{written, read-again, writes, written-given}

@@ -2,7 +2,7 @@
 use mathlib.Core.Path.{sym, _∙_, ap}
 use Prim.Native.Nat.{ℕ, _-_}
 use native.Mathlib.Omega.{arith}
-use Rattle.model.specs.Layout.{view}
+use Rattle.model.specs.Before.{view}
 use Rattle.table.proofs.Views.{does, same-word}
 use Rattle.theorems.specs.Leap.{spend}
 use Rattle.theorems.proofs.Spending.{quantum-below, spend-none, spend-some}

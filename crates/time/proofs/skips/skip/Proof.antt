@@ -8,8 +8,8 @@ use Rattle.model.specs.declared.tables.Timer.{Timer}
 use Rattle.model.specs.declared.tables.Table.{Table}
 use Rattle.model.specs.State.{State}
 use Rattle.model.specs.Parts.{with-threads, with-timers}
-use Rattle.model.specs.Layout as layout
-use Rattle.model.specs.Layout.{view}
+use Rattle.model.specs.Before as layout
+use Rattle.model.specs.Before.{view}
 use Rattle.table.specs.Orderly.{Does}
 use Rattle.table.proofs.Views.{table-threads, table-timers}
 use Rattle.theorems.specs.Skip.{limit-less, time-less, skip}

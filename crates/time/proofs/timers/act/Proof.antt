@@ -5,7 +5,7 @@ use native.Mathlib.Omega.{arith}
 use denote.Ref.{now}
 use Rattle.model.specs.State.{State}
 use Rattle.model.specs.Effects.{post-semaphore, set-flags, act}
-use Rattle.model.specs.Layout.{view}
+use Rattle.model.specs.Before.{view}
 use Rattle.table.proofs.Views.{same-word}
 use borrow.Author.Needs.{needs}
 use Rattle.time.proofs.timers.act.Statement.{statement}

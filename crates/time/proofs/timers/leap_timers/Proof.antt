@@ -4,7 +4,7 @@ use Prim.Native.Nat.{_-_, _≤_}
 use native.Mathlib.Omega.{arith}
 use Rattle.sequences.proofs.Walks.{walk-all}
 use Rattle.model.specs.State.{unused-timer}
-use Rattle.model.specs.Layout.{view}
+use Rattle.model.specs.Before.{view}
 use Rattle.theorems.specs.Leap.{timer-leap}
 use Rattle.theorems.proofs.LeapPlaced.{timer-leap-placed}
 use Rattle.time.specs.Armed.{Armed}

@@ -4,8 +4,8 @@ use mathlib.Core.Bool.{and-true}
 use native.Mathlib.Omega.{arith}
 use borrow.Author.Tests.{le-leb}
 use lib.Dec.{ltb}
-use Rattle.refusals.proofs.fields.is_positive_32.Statement.{statement}
-use Rattle.refusals.proofs.fields.is_positive_32.Tie as tie
+use Rattle.refusals.proofs.request_fields.is_positive_32.Statement.{statement}
+use Rattle.refusals.proofs.request_fields.is_positive_32.Tie as tie
 
 returns : tie.Need-returns
 returns c =

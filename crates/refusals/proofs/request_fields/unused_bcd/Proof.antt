@@ -1,7 +1,7 @@
 -- One field more.
 use borrow.Author.Needs.{needs}
-use Rattle.refusals.proofs.fields.unused_bcd.Statement.{statement}
-use Rattle.refusals.proofs.fields.unused_bcd.Tie as tie
+use Rattle.refusals.proofs.request_fields.unused_bcd.Statement.{statement}
+use Rattle.refusals.proofs.request_fields.unused_bcd.Tie as tie
 
 returns : tie.Need-returns
 returns c = rw (c .before .unused-cd .ensures)

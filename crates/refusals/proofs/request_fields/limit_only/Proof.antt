@@ -3,8 +3,8 @@ use Prim.Native.Nat.{_<_}
 use native.Mathlib.Omega.{arith}
 use borrow.Author.Tests.{le-leb}
 use borrow.Author.Needs.{needs}
-use Rattle.refusals.proofs.fields.limit_only.Statement.{statement}
-use Rattle.refusals.proofs.fields.limit_only.Tie as tie
+use Rattle.refusals.proofs.request_fields.limit_only.Statement.{statement}
+use Rattle.refusals.proofs.request_fields.limit_only.Tie as tie
 
 limit-below : (s : tie.Start) → s .args .q .a < 4294967296
 limit-below s = search needs

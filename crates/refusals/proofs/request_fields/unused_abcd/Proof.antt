@@ -1,7 +1,7 @@
 -- One field more.
 use borrow.Author.Needs.{needs}
-use Rattle.refusals.proofs.fields.unused_abcd.Statement.{statement}
-use Rattle.refusals.proofs.fields.unused_abcd.Tie as tie
+use Rattle.refusals.proofs.request_fields.unused_abcd.Statement.{statement}
+use Rattle.refusals.proofs.request_fields.unused_abcd.Tie as tie
 
 returns : tie.Need-returns
 returns c = rw (c .before .unused-bcd .ensures)

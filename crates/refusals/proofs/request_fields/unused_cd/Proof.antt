@@ -2,8 +2,8 @@
 use mathlib.Core.Path.{sym, ap}
 use mathlib.Core.Bool.{Bool, _&&_, and-true}
 use lib.Dec.{eqb}
-use Rattle.refusals.proofs.fields.unused_cd.Statement.{statement}
-use Rattle.refusals.proofs.fields.unused_cd.Tie as tie
+use Rattle.refusals.proofs.request_fields.unused_cd.Statement.{statement}
+use Rattle.refusals.proofs.request_fields.unused_cd.Tie as tie
 
 returns : tie.Need-returns
 returns c =
