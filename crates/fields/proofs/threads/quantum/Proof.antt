@@ -1,0 +1,13 @@
+use mathlib.Core.Path.{refl, _∙_}
+use lib.Dec.{lit<}
+use Rattle.model.specs.declared.tables.Thread.{Thread}
+use Rattle.fields.proofs.Parts.{part-read, threads-part}
+use borrow.Author.Needs.{needs}
+use Rattle.fields.proofs.threads.quantum.Statement.{statement}
+use Rattle.fields.proofs.threads.quantum.Tie as tie
+
+returns : tie.Need-returns
+returns c = c .u16-at .ensures ∙ part-read threads-part (c .before .before .pre) 3 (λ (x : Thread). x .quantum) (lit< tt) (λ n. refl)
+
+pub quantum-spec : {M : Type 1} → statement M
+quantum-spec = tie.close (tie.spec (λ c. search needs) (λ c. search needs) (λ c. search needs) (λ c κs. search needs) returns)

@@ -1,0 +1,5 @@
+pub mod Faithful
+pub mod Frames
+pub mod Listed
+pub mod Fitting
+pub mod Images
