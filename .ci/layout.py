@@ -62,8 +62,9 @@ Field = collections.namedtuple("Field", "of name begin at size")
 
 
 def read_page():
-    """The rows of the page's tables; a row's name ends at its first comma."""
-    for section in (TOP / "docs/IMAGE.md").read_text().split("\n## ")[1:]:
+    """The rows of the tables in the page's first chapter, which is the image that users have; a row's name ends at its first comma."""
+    chapter = (TOP / "docs/IMAGE.md").read_text().split("\n# ")[0]
+    for section in chapter.split("\n## ")[1:]:
         heading, rows = section.split("\n", 1)
         of, _, begin = heading.partition(", at ")
         for at, size, name in re.findall(r"(?m)^\| (\d[^|]*) \| (\d+) \| ([^|,]+)", rows):
