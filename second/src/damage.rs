@@ -1,8 +1,8 @@
 //! Changes of a sound image: one that breaks a named clause of soundness, ones that know nothing of the table, and (in
 //! `edit`) ones that keep it sound. Chance picks the place among all where the change is possible.
 
-mod crowd;
-mod draft;
+pub mod crowd;
+pub mod draft;
 pub mod edit;
 mod lists;
 mod objects;
@@ -26,7 +26,7 @@ pub fn break_clause(clause: Clause, image: &[u8], random: &mut Random) -> Option
 }
 
 /// A change that doesn't look at what the bytes mean. What comes out may still be sound, but for `WrongLength`.
-#[derive(Clone, Copy, PartialEq, Eq, Debug)]
+#[derive(Clone, Copy, PartialEq, Eq, Hash, Debug)]
 pub enum Spoil {
     OneByte,
     OneBit,

@@ -12,9 +12,9 @@ mod threads;
 mod timers;
 
 pub use clause::Clause;
+pub(crate) use found::Found;
 
 use crate::image::layout::LENGTH;
-use found::Found;
 use places::Places;
 
 /// The broken clauses, each once, in the paragraph's order; none exactly if the image is sound.

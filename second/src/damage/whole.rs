@@ -1,7 +1,7 @@
 //! Damage to the image's length, to scheduling and to the choice (01, soundness, parts 1, 15 and 16).
 
 use super::draft::{Draft, READY};
-use crate::image::layout::{CHOSEN, LENGTH, NONE_CHOSEN, SCHEDULING, SCHEDULING_OFF, SCHEDULING_ON};
+use crate::image::layout::{CHOSEN, NONE_CHOSEN, SCHEDULING, SCHEDULING_OFF, SCHEDULING_ON};
 use crate::sound::Clause;
 use crate::table::THREADS;
 
@@ -22,9 +22,10 @@ pub fn damage(clause: Clause, draft: &mut Draft) -> Option<()> {
 
 /// Zeros behind the end, where the image grows: a reader that looked no further than an image's end would be content.
 pub fn wrong_length(draft: &mut Draft) -> Option<()> {
+    let right = draft.image.len();
     let random = draft.between(0, 2_000) as usize;
-    let length = draft.pick(&[0, 1, 5, 6, LENGTH - 1, LENGTH + 1, 2 * LENGTH, 4_096, random])?;
-    let length = if length == LENGTH { LENGTH + 1 } else { length };
+    let length = draft.pick(&[0, 1, 5, 6, right - 1, right + 1, 2 * right, 4_096, random])?;
+    let length = if length == right { right + 1 } else { length };
     draft.image.resize(length, 0);
     Some(())
 }

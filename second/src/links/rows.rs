@@ -1,0 +1,44 @@
+//! The same table in both layouts: an image with links as the image with rows of ids, and back.
+
+use super::layout::{ids, lay, LENGTH, LINKS};
+use super::sound::links_are_right;
+use crate::image;
+use crate::image::layout as rows;
+use crate::table::{ListName, THREADS};
+
+/// The image with rows of the table that is read off an image with links, which has the right length. The links may
+/// be wrong: the rows then hold the lists as they are read.
+pub fn rows_of(image: &[u8]) -> Vec<u8> {
+    let mut written = vec![0; image::LENGTH];
+    written[..LINKS].copy_from_slice(&image[..LINKS]);
+    for (list, name) in ListName::all().enumerate() {
+        let ids = ids(image, list);
+        written[rows::list_length(name)] = ids.len() as u8;
+        for (place, id) in ids.iter().enumerate() {
+            written[rows::list_ids(name) + place] = *id as u8;
+        }
+    }
+    written
+}
+
+/// The image with links of an image with rows; None where links can't tell what the rows do, as with an id that is no
+/// thread's or a thread that stands in two places.
+pub fn with_links(written: &[u8]) -> Option<Vec<u8>> {
+    if written.len() != image::LENGTH {
+        return None;
+    }
+    let mut image = vec![0; LENGTH];
+    image[..LINKS].copy_from_slice(&written[..LINKS]);
+    for (list, name) in ListName::all().enumerate() {
+        let ids: Vec<usize> = rows::ids(written, name).iter().map(|id| usize::from(*id)).collect();
+        if ids.iter().any(|id| *id >= THREADS) {
+            return None;
+        }
+        lay(&mut image, list, &ids);
+    }
+    if links_are_right(&image) && rows_of(&image) == written {
+        Some(image)
+    } else {
+        None
+    }
+}
