@@ -1,8 +1,9 @@
 //! Changes of a sound image: one that breaks a named clause of soundness, ones that know nothing of the table, and (in
 //! `edit`) ones that keep it sound. Chance picks the place among all where the change is possible.
 
-pub mod crowd;
-pub mod draft;
+pub(crate) mod crowd;
+pub mod deal;
+pub(crate) mod draft;
 pub mod edit;
 mod lists;
 mod objects;

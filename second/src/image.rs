@@ -209,7 +209,7 @@ fn read_timer(bytes: &[u8]) -> Timer {
     }
 }
 
-fn write_list(image: &mut [u8], name: ListName, list: &[usize]) {
+pub(crate) fn write_list(image: &mut [u8], name: ListName, list: &[usize]) {
     image[layout::list_length(name)] = list.len() as u8;
     for (place, id) in list.iter().enumerate() {
         image[layout::list_ids(name) + place] = *id as u8;

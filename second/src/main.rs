@@ -20,13 +20,16 @@ second: a plain kernel table, to compare another kernel with
   second generate --seed S --records N --profile P     a replay file, to standard output
   second profiles                                      the names of the profiles, one a line
   second coverage                                      how often each call gives each answer over the fixed seeds
-  second image fresh                                   the image of a fresh table, to standard output
+  second image fresh                                   the image of a fresh table, with rows, to standard output
   second image check FILE                              `sound`, or the broken clauses, one a line
   second image after FILE                              the image after the replay file FILE
   second image cases --seed S --count N                a file of cases: images, each with a request
   second image answers FILE                            what each case of such a file must give
-  second links fresh | check | after | cases | answers
-                                                       the same five for the image with links
+  second links fresh                                   the same five for images with links
+  second links check FILE
+  second links after FILE
+  second links cases --seed S --count N
+  second links answers FILE
 
 Without FILE, replay reads standard input.
 

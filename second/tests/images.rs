@@ -1,6 +1,8 @@
 //! The image: its bytes, its soundness clause by clause, the refusal of what isn't sound, changes that break or keep
 //! soundness, and files of cases (01, The table; IMAGE.md).
 
+#[path = "images/file.rs"]
+mod file;
 #[path = "images/sample.rs"]
 mod sample;
 

@@ -1,8 +1,7 @@
 //! Makes the cases of images with rows: half of them sound, half damaged, and to each a request that matters for it.
 //! The same seed gives the same cases.
 
-use super::due::Due;
-use super::Tables;
+use super::{Due, Tables};
 use crate::damage::{break_clause, spoil, Spoil};
 use crate::image;
 use crate::sound::Clause;

@@ -1,6 +1,7 @@
 //! The sound tables under the cases: runs of the generator in every profile, which go on from case to case, and edits
 //! that lead where runs hardly come.
 
+use crate::damage::deal::dealt;
 use crate::damage::edit::{edit, Edit};
 use crate::generate::{Generator, Profile};
 use crate::image;
@@ -65,7 +66,17 @@ impl Tables {
             self.edits += 1;
             image = edit(next, &image, &mut self.random).unwrap_or(image);
         }
-        let table = image::read(&image).expect("an edit keeps an image sound");
+        self.set_table_of(&image);
+    }
+
+    /// The run goes on from a table whose threads are dealt out over a few lists.
+    pub fn deal(&mut self) {
+        let image = dealt(&image::write(self.table()), &mut self.random);
+        self.set_table_of(&image);
+    }
+
+    fn set_table_of(&mut self, image: &[u8]) {
+        let table = image::read(image).expect("an edit keeps an image sound");
         self.set_table(table);
     }
 

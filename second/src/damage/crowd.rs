@@ -18,19 +18,33 @@ pub fn crowd(draft: &mut Draft) -> Option<()> {
 /// Fills this list, which is that of a created object if it is a wait list.
 pub fn crowd_on(draft: &mut Draft, name: ListName) {
     let mut ids = shuffled(draft);
-    for other in ListName::all() {
-        draft.set_ids(other, &[]);
+    empty_all_lists(draft);
+    fill(draft, name, &mut ids);
+    choose_anew(draft);
+}
+
+pub fn empty_all_lists(draft: &mut Draft) {
+    for name in ListName::all() {
+        draft.set_ids(name, &[]);
     }
+}
+
+/// Brings these threads, at least one, onto an empty list, but for the owner of a mutex, who can't wait for it.
+pub fn fill(draft: &mut Draft, name: ListName, ids: &mut Vec<usize>) {
     match name {
         ListName::SemaphoreWait(id) => draft.put_half(layout::semaphore(id) + SEMAPHORE_COUNT, 0),
-        ListName::MutexWait(id) => take_out_the_owner(draft, id, &mut ids),
+        ListName::MutexWait(id) => take_out_the_owner(draft, id, ids),
         _ => (),
     }
     let priorities = priorities(draft, name);
     for (id, priority) in ids.iter().zip(priorities) {
         enter(draft, name, *id, priority);
     }
-    draft.set_ids(name, &ids);
+    draft.set_ids(name, ids);
+}
+
+/// The choice that scheduling demands; with it off, none.
+pub fn choose_anew(draft: &mut Draft) {
     draft.put(CHOSEN, u32::from(NONE_CHOSEN));
     draft.choose();
 }
@@ -48,14 +62,11 @@ pub fn is_there(draft: &Draft, name: ListName) -> bool {
 
 fn shuffled(draft: &mut Draft) -> Vec<usize> {
     let mut ids: Vec<usize> = (0..THREADS).collect();
-    for last in (1..THREADS).rev() {
-        let other = draft.between(0, last as u32) as usize;
-        ids.swap(last, other);
-    }
+    draft.shuffle(&mut ids);
     ids
 }
 
-/// The owner, or anybody as the new owner, is stopped.
+/// The owner, or one of these as the new owner, is stopped if it is one of these.
 fn take_out_the_owner(draft: &mut Draft, mutex: usize, ids: &mut Vec<usize>) {
     let at = layout::mutex(mutex);
     if draft.image[at + MUTEX_DEPTH] == 0 {
@@ -63,10 +74,12 @@ fn take_out_the_owner(draft: &mut Draft, mutex: usize, ids: &mut Vec<usize>) {
         draft.put(at + MUTEX_OWNER, ids[0] as u32);
     }
     let owner = usize::from(draft.image[at + MUTEX_OWNER]);
-    ids.retain(|id| *id != owner);
-    let base = draft.between(0, 7);
-    enter(draft, ListName::Stopped, owner, base);
-    draft.set_ids(ListName::Stopped, &[owner]);
+    if ids.contains(&owner) {
+        ids.retain(|id| *id != owner);
+        let base = draft.between(0, 7);
+        enter(draft, ListName::Stopped, owner, base);
+        draft.append(ListName::Stopped, owner);
+    }
 }
 
 /// As many as the threads, falling; all the same in a ready list, and at times elsewhere.

@@ -48,6 +48,13 @@ impl<'a> Draft<'a> {
         self.random.any(from)
     }
 
+    pub fn shuffle<T>(&mut self, items: &mut [T]) {
+        for last in (1..items.len()).rev() {
+            let other = self.between(0, last as u32) as usize;
+            items.swap(last, other);
+        }
+    }
+
     /// One of the better ones mostly, where there are such; else one of all.
     pub fn prefer<T: Copy>(&mut self, better: &[T], all: &[T]) -> Option<T> {
         if better.is_empty() || self.between(0, 4) == 0 {

@@ -11,8 +11,7 @@ mod shared;
 mod threads;
 mod whole;
 
-use super::layout::{first, last, next, previous};
-use super::layout::{BACKWARD, FORWARD, LISTS};
+use super::layout::{first, last, next, previous, BACKWARD, FORWARD, LISTS};
 use super::sound;
 use crate::damage::draft::Draft;
 use crate::random::Random;

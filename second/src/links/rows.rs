@@ -3,7 +3,8 @@
 use super::layout::{ids, lay, LENGTH, LINKS};
 use super::sound::links_are_right;
 use crate::image;
-use crate::image::layout as rows;
+use crate::image::layout::ids as ids_of_row;
+use crate::image::write_list;
 use crate::table::{ListName, THREADS};
 
 /// The image with rows of the table that is read off an image with links, which has the right length. The links may
@@ -12,11 +13,7 @@ pub fn rows_of(image: &[u8]) -> Vec<u8> {
     let mut written = vec![0; image::LENGTH];
     written[..LINKS].copy_from_slice(&image[..LINKS]);
     for (list, name) in ListName::all().enumerate() {
-        let ids = ids(image, list);
-        written[rows::list_length(name)] = ids.len() as u8;
-        for (place, id) in ids.iter().enumerate() {
-            written[rows::list_ids(name) + place] = *id as u8;
-        }
+        write_list(&mut written, name, &ids(image, list));
     }
     written
 }
@@ -30,7 +27,7 @@ pub fn with_links(written: &[u8]) -> Option<Vec<u8>> {
     let mut image = vec![0; LENGTH];
     image[..LINKS].copy_from_slice(&written[..LINKS]);
     for (list, name) in ListName::all().enumerate() {
-        let ids: Vec<usize> = rows::ids(written, name).iter().map(|id| usize::from(*id)).collect();
+        let ids: Vec<usize> = ids_of_row(written, name).iter().map(|id| usize::from(*id)).collect();
         if ids.iter().any(|id| *id >= THREADS) {
             return None;
         }

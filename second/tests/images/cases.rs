@@ -1,5 +1,6 @@
 //! Files of cases and their answers, by hand and generated.
 
+use crate::file::{length, numbers, split, REFUSALS};
 use crate::sample;
 use second::calls::number::LAST;
 use second::cases::{answers, cases, Summary, ANSWER_BYTES, NUMBER_BYTES, REQUEST_BYTES};
@@ -8,15 +9,6 @@ use second::sound::{self, Clause};
 use second::table::Table;
 use std::collections::HashSet;
 use std::io;
-
-fn numbers(numbers: &[u32]) -> Vec<u8> {
-    numbers.iter().flat_map(|number| number.to_le_bytes()).collect()
-}
-
-/// The length before an image.
-fn length(image: &[u8]) -> Vec<u8> {
-    numbers(&[image.len() as u32])
-}
 
 fn answered(file: &[u8]) -> io::Result<(Vec<u8>, Summary)> {
     let mut output = Vec::new();
@@ -90,23 +82,6 @@ fn a_file_that_is_cut_off_is_an_error_that_says_where() {
     let expected = "ends at byte 5004 within the image of case 1";
     assert!(answered(&huge).unwrap_err().to_string().contains(expected));
 }
-
-/// A case of a file: the image and the request's numbers.
-fn split(mut file: &[u8]) -> Vec<(&[u8], Vec<u32>)> {
-    let mut split = Vec::new();
-    while !file.is_empty() {
-        let length = u32::from_le_bytes([file[0], file[1], file[2], file[3]]) as usize;
-        let (image, rest) = file[NUMBER_BYTES..].split_at(length);
-        let request = rest[..REQUEST_BYTES]
-            .chunks(NUMBER_BYTES)
-            .map(|four| u32::from_le_bytes([four[0], four[1], four[2], four[3]]));
-        split.push((image, request.collect()));
-        file = &rest[REQUEST_BYTES..];
-    }
-    split
-}
-
-const REFUSALS: std::ops::RangeInclusive<u32> = 1..=9;
 
 #[test]
 fn generated_cases_hold_every_answer_and_every_clause() {

@@ -1,13 +1,16 @@
 //! Each damage to the links gives an image that isn't sound, each clause on links is broken, and all but one of them
 //! alone, with every other thing in order.
 
+use second::damage::deal::dealt;
 use second::damage::edit::{edit, Edit};
 use second::generate::{Generator, Profile};
 use second::links::damage::{blind, damage, Damage};
+use second::links::rows::rows_of;
 use second::links::sound::{self, Clause};
 use second::links::{self, LENGTH};
 use second::random::Random;
 use std::collections::{HashMap, HashSet};
+use std::mem::discriminant;
 
 /// No image whatever breaks this alone: who is read twice on one list has two places before it, and one previous; and
 /// such a list never ends.
@@ -75,6 +78,23 @@ fn each_damage_breaks_soundness_and_each_clause_is_broken_mostly_alone() {
             clause.name()
         );
     }
+}
+
+#[test]
+fn dealt_out_threads_keep_an_image_sound() {
+    let mut random = Random::new(3);
+    let mut families = HashSet::new();
+    for_images(4, 200, |image| {
+        let rows = dealt(&rows_of(image), &mut random);
+        assert_eq!(second::sound::broken(&rows), []);
+        let table = second::image::read(&rows).expect("a sound image");
+        families.extend(
+            (0..16)
+                .filter_map(|id| table.list_of(id))
+                .map(|name| discriminant(&name)),
+        );
+    });
+    assert_eq!(families.len(), 6);
 }
 
 /// A spoilt image that is still sound is a table like any other.

@@ -63,6 +63,8 @@ pub struct Maker {
 /// How often each family of damages is taken.
 const WEIGHTS: [u32; 4] = [9, 7, 3, 1];
 
+const DEAL_ONCE_IN: u32 = 15;
+
 impl Maker {
     pub fn new(seed: u64) -> Maker {
         Maker {
@@ -74,8 +76,13 @@ impl Maker {
         }
     }
 
+    /// Tables are dealt out now and then, for links matter most where several lists have a middle.
     pub fn case(&mut self) -> Case {
-        if self.tables.go_on() {
+        let damage = self.tables.go_on();
+        if self.tables.random.once_in(DEAL_ONCE_IN) {
+            self.tables.deal();
+        }
+        if damage {
             self.damaged()
         } else {
             self.as_it_is(Made::AsItIs)

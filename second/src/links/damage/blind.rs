@@ -1,9 +1,9 @@
 //! Changes of the links that ask nobody. What comes out may still be sound: a list that moves as a whole is in order by
 //! its links, and only the table tells whether it may stand there.
 
-use super::members::{list_of_at_least, put_link, shuffle};
+use super::members::{another_list, list_of_at_least, put_link};
 use crate::damage::draft::Draft;
-use crate::links::layout::{first, last, next, previous, Half, BACKWARD, FORWARD, HIGHEST_LINK, LENGTH, LINKS, LISTS};
+use crate::links::layout::{first, last, next, previous, Half, BACKWARD, FORWARD, HIGHEST_LINK, LENGTH, LINKS};
 use crate::random::Random;
 use crate::table::THREADS;
 
@@ -36,10 +36,10 @@ impl Spoil {
     ];
 }
 
-/// A sound image with links, spoilt; None where it has no list to turn.
+/// A sound image with links, spoilt; None where it has no list to swap or to turn.
 pub fn spoil(spoil: Spoil, image: &[u8], random: &mut Random) -> Option<Vec<u8>> {
     let mut draft = Draft::of(image, random);
-    let here = any_place(&mut draft);
+    let here = any_link_place(&mut draft);
     let there = any_place(&mut draft);
     match spoil {
         Spoil::OneLink => draft.image[here] = any_link(&mut draft),
@@ -49,7 +49,7 @@ pub fn spoil(spoil: Spoil, image: &[u8], random: &mut Random) -> Option<Vec<u8>>
         Spoil::RunOfLinksCopied => copy_run(&mut draft, here, there),
         Spoil::LinksRandom => (LINKS..LENGTH).for_each(|at| draft.image[at] = any_link(&mut draft)),
         Spoil::ThreadsPermuted => permute(&mut draft),
-        Spoil::ListsSwapped => swap_lists(&mut draft),
+        Spoil::ListsSwapped => swap_lists(&mut draft)?,
         Spoil::ListTurned => turn_list(&mut draft)?,
         Spoil::HalvesTurned => {
             (0..Half::BYTES).for_each(|place| draft.image.swap(FORWARD.start() + place, BACKWARD.start() + place))
@@ -60,6 +60,13 @@ pub fn spoil(spoil: Spoil, image: &[u8], random: &mut Random) -> Option<Vec<u8>>
 
 fn any_place(draft: &mut Draft) -> usize {
     draft.between(LINKS as u32, LENGTH as u32 - 1) as usize
+}
+
+/// Mostly the place of somebody's link, where there are such.
+fn any_link_place(draft: &mut Draft) -> usize {
+    let all: Vec<usize> = (LINKS..LENGTH).collect();
+    let links: Vec<usize> = all.iter().copied().filter(|at| draft.image[*at] != 0).collect();
+    draft.prefer(&links, &all).expect("there are links")
 }
 
 /// A link, or the number above all of them.
@@ -82,19 +89,20 @@ fn copy_run(draft: &mut Draft, from: usize, to: usize) {
 /// All threads stand in rings, each previous that of its next.
 fn permute(draft: &mut Draft) {
     let mut ids: Vec<usize> = (0..THREADS).collect();
-    shuffle(draft, &mut ids);
+    draft.shuffle(&mut ids);
     for (id, other) in ids.into_iter().enumerate() {
         put_link(draft, next(id), other);
         put_link(draft, previous(other), id);
     }
 }
 
-/// Two lists change places with all their threads.
-fn swap_lists(draft: &mut Draft) {
-    let here = draft.between(0, LISTS as u32 - 1) as usize;
-    let there = draft.between(0, LISTS as u32 - 1) as usize;
+/// Two lists, one of them mostly empty, change places with all their threads.
+fn swap_lists(draft: &mut Draft) -> Option<()> {
+    let (here, _) = list_of_at_least(draft, 1)?;
+    let there = another_list(draft, here)?;
     draft.image.swap(first(here), first(there));
     draft.image.swap(last(here), last(there));
+    Some(())
 }
 
 /// A list stands from behind.

@@ -1,8 +1,8 @@
 //! Damage to the first or the last of a list.
 
-use super::members::{anybody, empty_list, list_of_at_least, put_another, put_link};
+use super::members::{another_list, empty_list, list_of_at_least, put_another, put_link};
 use crate::damage::draft::Draft;
-use crate::links::layout::{first, last, previous, Half, LISTS};
+use crate::links::layout::{first, last, previous, Half};
 
 pub fn first_missing(draft: &mut Draft) -> Option<()> {
     let (list, _) = list_of_at_least(draft, 1)?;
@@ -34,14 +34,13 @@ pub fn last_wrong(draft: &mut Draft) -> Option<()> {
 
 pub fn last_of_empty(draft: &mut Draft) -> Option<()> {
     let list = empty_list(draft)?;
-    put_another(draft, last(list), &anybody())
+    put_another(draft, last(list), &[])
 }
 
-/// Two lists, one of them maybe empty, change their ends of one half and keep those of the other.
+/// Two lists, one of them mostly empty, change their ends of one half and keep those of the other.
 pub fn swapped(draft: &mut Draft, half: Half) -> Option<()> {
     let (list, _) = list_of_at_least(draft, 1)?;
-    let others: Vec<usize> = (0..LISTS).filter(|other| *other != list).collect();
-    let other = draft.pick(&others)?;
+    let other = another_list(draft, list)?;
     draft.image.swap(half.end(list), half.end(other));
     Some(())
 }

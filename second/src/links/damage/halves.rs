@@ -1,8 +1,8 @@
 //! The two halves of the links tell two stories, each of them in order by itself.
 
-use super::members::{ids, list_of_at_least};
+use super::members::{another_list, ids, list_of_at_least};
 use crate::damage::draft::Draft;
-use crate::links::layout::{first, last, lay_half, next, previous, Half, BACKWARD, FORWARD, LISTS};
+use crate::links::layout::{first, last, lay_half, next, previous, Half, BACKWARD, FORWARD};
 
 /// Next and previous change places for each thread of a list, and its first and last stay.
 pub fn threads_turned(draft: &mut Draft) -> Option<()> {
@@ -47,8 +47,7 @@ pub fn order_in_one(draft: &mut Draft) -> Option<()> {
 pub fn list_in_one(draft: &mut Draft) -> Option<()> {
     let (list, mut left) = list_of_at_least(draft, 1)?;
     let half = one_half(draft)?;
-    let others: Vec<usize> = (0..LISTS).filter(|other| *other != list).collect();
-    let other = draft.pick(&others)?;
+    let other = another_list(draft, list)?;
     let place = draft.between(0, left.len() as u32 - 1) as usize;
     let mut joined = ids(draft, other);
     joined.push(left.remove(place));

@@ -2,7 +2,6 @@
 
 use crate::damage::draft::Draft;
 use crate::links::layout::{self, link_to, HIGHEST_LINK, LISTS};
-use crate::table::THREADS;
 
 /// A list with at least so many threads, and its threads.
 pub fn list_of_at_least(draft: &mut Draft, least: usize) -> Option<(usize, Vec<usize>)> {
@@ -16,6 +15,17 @@ pub fn empty_list(draft: &mut Draft) -> Option<usize> {
     draft.pick(&lists)
 }
 
+/// A list other than this one, mostly an empty one: nobody loses a place there.
+pub fn another_list(draft: &mut Draft, list: usize) -> Option<usize> {
+    let others: Vec<usize> = (0..LISTS).filter(|other| *other != list).collect();
+    let empty: Vec<usize> = others
+        .iter()
+        .copied()
+        .filter(|other| ids(draft, *other).is_empty())
+        .collect();
+    draft.prefer(&empty, &others)
+}
+
 pub fn ids(draft: &Draft, list: usize) -> Vec<usize> {
     layout::ids(&draft.image, list)
 }
@@ -23,15 +33,8 @@ pub fn ids(draft: &Draft, list: usize) -> Vec<usize> {
 /// Those who stand nowhere, which are the absent ones, in an order of chance.
 pub fn off_lists(draft: &mut Draft) -> Vec<usize> {
     let mut absent = draft.absent();
-    shuffle(draft, &mut absent);
+    draft.shuffle(&mut absent);
     absent
-}
-
-pub fn shuffle<T>(draft: &mut Draft, items: &mut [T]) {
-    for last in (1..items.len()).rev() {
-        let other = draft.between(0, last as u32) as usize;
-        items.swap(last, other);
-    }
 }
 
 /// So many of them or more, from the front; None where there are fewer.
@@ -56,9 +59,4 @@ pub fn put_another(draft: &mut Draft, at: usize, better: &[usize]) -> Option<()>
     let link = draft.prefer(&better, &all)?;
     draft.put(at, u32::from(link));
     Some(())
-}
-
-/// Everybody, for whom any thread will do.
-pub fn anybody() -> Vec<usize> {
-    (0..THREADS).collect()
 }

@@ -1,25 +1,25 @@
 //! Two lists that have threads in common.
 
-use super::members::{empty_list, ids, list_of_at_least, put_link};
+use super::members::{another_list, ids, list_of_at_least, put_link};
 use crate::damage::draft::Draft;
 use crate::links::layout::{first as first_of, last as last_of, next, previous, LISTS};
 
-/// An empty list gets the first and the last of another: each link agrees with the rest, on either list.
+/// A list, mostly an empty one, gets the first and the last of another: each link agrees with the rest, on either list.
 pub fn first(draft: &mut Draft) -> Option<()> {
-    let (_, ids) = list_of_at_least(draft, 1)?;
-    let list = empty_list(draft)?;
-    put_link(draft, first_of(list), ids[0]);
-    put_link(draft, last_of(list), ids[ids.len() - 1]);
+    let (list, ids) = list_of_at_least(draft, 1)?;
+    let other = another_list(draft, list)?;
+    put_link(draft, first_of(other), ids[0]);
+    put_link(draft, last_of(other), ids[ids.len() - 1]);
     Some(())
 }
 
-/// An empty list begins with a later one of another list. That one's previous agrees with one list or the other.
+/// A list begins with a later one of another list. That one's previous agrees with one list or the other.
 pub fn middle(draft: &mut Draft) -> Option<()> {
-    let (_, ids) = list_of_at_least(draft, 2)?;
-    let list = empty_list(draft)?;
+    let (list, ids) = list_of_at_least(draft, 2)?;
+    let other = another_list(draft, list)?;
     let later = draft.pick(&ids[1..])?;
-    put_link(draft, first_of(list), later);
-    put_link(draft, last_of(list), ids[ids.len() - 1]);
+    put_link(draft, first_of(other), later);
+    put_link(draft, last_of(other), ids[ids.len() - 1]);
     if draft.coin() {
         draft.put(previous(later), 0);
     }

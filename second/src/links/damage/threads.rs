@@ -3,9 +3,9 @@
 use super::members::{list_of_at_least, off_lists as standing_nowhere, put_another, put_link};
 use crate::damage::crowd::{crowd_on, is_there};
 use crate::damage::draft::Draft;
-use crate::links::layout::{ids, next, previous, Half, LISTS};
+use crate::links::layout::{ids, named_by, next, previous, Half, LISTS};
 use crate::links::rows::{rows_of, with_links};
-use crate::table::ListName;
+use crate::table::{ListName, THREADS};
 
 /// One of a list's threads without its last, and the list.
 fn somebody_before_the_last(draft: &mut Draft) -> Option<(usize, Vec<usize>)> {
@@ -45,7 +45,7 @@ pub fn next_behind_last(draft: &mut Draft) -> Option<()> {
     let nowhere = standing_nowhere(draft);
     put_another(draft, next(last), &nowhere)?;
     if draft.coin() {
-        let behind = usize::from(draft.image[next(last)]) - 1;
+        let behind = named_by(draft.image[next(last)])?;
         put_link(draft, previous(behind), last);
     }
     Some(())
@@ -54,8 +54,8 @@ pub fn next_behind_last(draft: &mut Draft) -> Option<()> {
 /// All sixteen stand on one list, and the last of them has a next. At times the ring is whole, with its previous.
 pub fn next_behind_sixteenth(draft: &mut Draft) -> Option<()> {
     fill_a_list(draft)?;
-    let (_, ids) = list_of_at_least(draft, 16)?;
-    let (first, last) = (ids[0], ids[15]);
+    let (_, ids) = list_of_at_least(draft, THREADS)?;
+    let (first, last) = (ids[0], ids[THREADS - 1]);
     put_another(draft, next(last), &[first])?;
     if draft.between(0, 3) == 0 {
         put_link(draft, previous(first), last);
@@ -65,7 +65,7 @@ pub fn next_behind_sixteenth(draft: &mut Draft) -> Option<()> {
 
 /// Brings all threads onto one list, unless they stand so already.
 fn fill_a_list(draft: &mut Draft) -> Option<()> {
-    if (0..LISTS).any(|list| ids(&draft.image, list).len() == 16) {
+    if (0..LISTS).any(|list| ids(&draft.image, list).len() == THREADS) {
         return Some(());
     }
     draft.image = rows_of(&draft.image);
