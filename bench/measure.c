@@ -1,5 +1,5 @@
 /*
- * What bench/run measures, through include/ordizgum.h: linked once with our library and once with the twin.
+ * What bench/run measures, through include/ordizgum.h: linked with each side in turn, over either image (linked.h).
  *
  *     measure NAME COUNT [PERIOD TICKS]
  *
@@ -14,6 +14,12 @@
 #include <time.h>
 
 #include "ordizgum.h"
+
+/* The soundness test that is measured: another than the side's own, if one is named. */
+#ifndef MEASURED_SOUND
+#define MEASURED_SOUND ordizgum_sound
+#endif
+uint32_t MEASURED_SOUND(const uint8_t *image, size_t length);
 
 static uint8_t image[ORDIZGUM_IMAGE_LENGTH];
 static uint32_t period = 1000, ticks;
@@ -65,12 +71,12 @@ static void busy_and_owned(void) {
     make(ORDIZGUM_DONE, ORDIZGUM_SET_PRIORITY, 6, 5, 0, 0);
 }
 
-enum { LENGTH_OF_READY_LIST_0 = 478, PLACES_OF_A_LIST = 16 }; /* docs/IMAGE.md */
+enum { FIRST_BYTE_OF_LISTS = 478, TOP_OF_IT = 16 }; /* docs/IMAGE.md: the length of ready list 0, or the next of thread 0 */
 
-/* Ready list 0 is too long: the first thing that both sides look at among the lists. */
+/* It is too high: among the lists the first thing that each side looks at. */
 static void busy_and_damaged(void) {
     busy();
-    image[LENGTH_OF_READY_LIST_0] = PLACES_OF_A_LIST + 1;
+    image[FIRST_BYTE_OF_LISTS] = TOP_OF_IT + 1;
 }
 
 static void round_of_two(void) {
@@ -134,7 +140,7 @@ static uint32_t once(const struct scenario *s) {
     case CALL:
         return ordizgum_call(image, sizeof image, s->call, s->id, ticks ? ticks : s->a, 0, 0, 0, report);
     case SOUND:
-        return ordizgum_sound(image, sizeof image);
+        return MEASURED_SOUND(image, sizeof image);
     case FRESH:
         return ordizgum_fresh(image, sizeof image);
     default:
@@ -142,15 +148,15 @@ static uint32_t once(const struct scenario *s) {
     }
 }
 
-static double nanoseconds(void) {
+static unsigned long long nanoseconds(void) {
     struct timespec t;
     clock_gettime(CLOCK_MONOTONIC, &t);
-    return 1e9 * (double)t.tv_sec + (double)t.tv_nsec;
+    return 1000000000ull * (unsigned long long)t.tv_sec + (unsigned long long)t.tv_nsec;
 }
 
 static void measure(const struct scenario *s, unsigned long count) {
     static uint8_t prepared[ORDIZGUM_IMAGE_LENGTH];
-    double start;
+    unsigned long long start;
     ordizgum_fresh(image, sizeof image);
     s->prepare();
     memcpy(prepared, image, sizeof image);
@@ -161,7 +167,7 @@ static void measure(const struct scenario *s, unsigned long count) {
         answer = once(s);
         if (answer != s->answer) stop(s->name, answer);
     }
-    printf("%.0f\n", nanoseconds() - start);
+    printf("%llu\n", nanoseconds() - start);
 }
 
 int main(int argc, char **argv) {
