@@ -3,4 +3,7 @@ pub mod Neighbours
 pub mod Ways
 pub mod Entered
 pub mod Standing
+pub mod Marks
+pub mod Followed
+pub mod AllFollowed
 pub mod Examples

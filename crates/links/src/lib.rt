@@ -4,4 +4,5 @@
 mod cells;
 pub mod entering;
 pub mod leaving;
+pub mod noting;
 pub mod walking;

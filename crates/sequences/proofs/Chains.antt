@@ -3,12 +3,12 @@
 use mathlib.Core.Path.{_≡_, refl, sym, _∙_, ap}
 use mathlib.Core.Logic.{_↔_}
 use mathlib.Core.List.{List, [], _∷_, _++_}
-use Prim.Native.Nat.{ℕ, zero, suc, _<_, _≤_}
+use Prim.Native.Nat.{ℕ, zero, suc, _-_, _<_, _≤_}
 use native.Mathlib.Omega.{arith}
 use native.Mathlib.Decide.{ℕ-discrete}
 use borrow.Author.Tests.{eq-eqb, ne-eqb}
 use lib.ListN.{length}
-use Rattle.sequences.specs.Lists.{count}
+use Rattle.sequences.specs.Lists.{count, snoc}
 use Rattle.sequences.specs.Links.{Chain, head-link, along, last-cell}
 use Rattle.sequences.proofs.Counts.{count-append, count-first, count-mid}
 
@@ -27,6 +27,10 @@ handed-back h e = record { over = sym (h .over); own = e; rest = λ x p q. sym (
 pub count-last : (c : ℕ) (a : List ℕ) → 0 < count (last-cell c a) (c ∷ a)
 count-last c [] = count-first c []
 count-last c (x ∷ a) = let r = count-last x a in omega arith
+
+pub last-snoc : (c x : ℕ) (l : List ℕ) → last-cell c (snoc x l) ≡ x
+last-snoc c x [] = refl
+last-snoc c x (y ∷ l) = last-snoc y x l
 
 pub differ : (x c : ℕ) (l : List ℕ) → ((z : ℕ) → count z (c ∷ l) ≤ 1) → 0 < count x l → x ≡ c → ⊥
 differ x c l once h e = let o = rw (eq-eqb c x (sym e)) at (once x) in omega arith
@@ -71,12 +75,38 @@ chain-same f g c (y ∷ l) h k x p =
       | no n ↦ chain-same f g y l (h .1) (k .1) x (omega (arith, rw (ne-eqb c x n) at p))
     ]
 
+-- ---- read
+
+pub along-none : (f : ℕ → ℕ) (k : ℕ) → along f k 0 ≡ []
+unfolding along
+along-none f zero = refl
+along-none f (suc k) = refl
+
+pub along-next : (f : ℕ → ℕ) (k link : ℕ) → 0 < k → (link ≡ 0 → ⊥) → along f k link ≡ (link - 1) ∷ along f (k - 1) (f (link - 1))
+unfolding along
+along-next f zero link h d = absurd (omega arith)
+along-next f (suc k) zero h d = absurd (d refl)
+along-next f (suc k) (suc x) h d =
+    let one-less : (z : ℕ) → suc z - 1 ≡ z = λ z. omega arith in
+    rw (one-less x, one-less k)
+
 pub chain-along : (f : ℕ → ℕ) (c k : ℕ) (l : List ℕ) → Chain f c l → length l ≤ k → along f k (f c) ≡ l
 unfolding along
 chain-along f c zero [] h m = refl
 chain-along f c (suc k) [] h m = rw h
 chain-along f c zero (x ∷ l) h m = absurd (omega arith)
 chain-along f c (suc k) (x ∷ l) h m = rw (h .0) (ap (λ (r : List ℕ). x ∷ r) (chain-along f x k l (h .1) (omega arith)))
+
+-- a list that is read, and at whose last cell no link leads on, is led through
+pub chain-read : (f : ℕ → ℕ) (c k : ℕ) → f (last-cell c (along f k (f c))) ≡ 0 → Chain f c (along f k (f c))
+unfolding along
+chain-read f c zero e = e
+chain-read f c (suc k) e = by-link (f c) refl e (λ x. chain-read f x k)
+  where
+    by-link : (y : ℕ) → f c ≡ y → f (last-cell c (along f (suc k) y)) ≡ 0
+        → ((x : ℕ) → f (last-cell x (along f k (f x))) ≡ 0 → Chain f x (along f k (f x))) → Chain f c (along f (suc k) y)
+    by-link zero q e r = q
+    by-link (suc x) q e r = (q, r x e)
 
 -- ---- tied in, and untied: the cell before the place hands its link to i and leads to i
 

@@ -1,8 +1,8 @@
 -- Links of lists: they are read back as these lists, and no other links are links of them; and one change of the lists that both halves follow.
 -- `seen` and `orderly-of` turn the one fact that a contract tells into what the lists are now and that the links are orderly still.
-use mathlib.Core.Path.{_≡_, refl, sym, _∙_, ap}
+use mathlib.Core.Path.{_≡_, sym, _∙_, ap}
 use mathlib.Core.List.{List, [], _++_, map}
-use Prim.Native.Nat.{ℕ, zero, suc, _+_, _-_, _<_}
+use Prim.Native.Nat.{ℕ, suc, _+_, _-_, _<_}
 use native.Mathlib.Decide.{decLt}
 use native.Mathlib.Omega.{arith}
 use lib.ListN.{length, getD, take, drop, length-drop, length-map, take-append-drop, List·getD-map}
@@ -11,7 +11,7 @@ use Rattle.sequences.specs.Lists.{count-all, reversed}
 use Rattle.sequences.specs.Links.{last-cell, along, lists, lists-in, leads, Half, Once, Linked, Orderly}
 use Rattle.sequences.proofs.Counts.{count-first, count-all-place}
 use Rattle.sequences.proofs.Parts.{counted-below}
-use Rattle.sequences.proofs.Chains.{Handed, chain-along, chain-same}
+use Rattle.sequences.proofs.Chains.{Handed, along-none, chain-along, chain-same}
 use Rattle.sequences.proofs.Halves.{Between, half-tie, half-untie, fewer, between-reversed, once-reversed, list-short}
 
 -- ---- read back
@@ -20,17 +20,16 @@ length-lists : (n : ℕ) (h : List ℕ) → length (lists n h) ≡ length h - n
 unfolding lists
 length-lists n h = length-map (drop n h) (along (leads h) n) ∙ length-drop n h
 
+pub many-lists : (n m : ℕ) (s : List ℕ) → length s ≡ n + m + (n + m) → length (lists-in n m s) ≡ m
+many-lists n m s size = length-lists n (take (n + m) s) ∙ omega (arith, length-take-le (n + m) s (omega arith))
+
 -- along a link of 0 nothing is read, so the default is read, too
-lists-at : (n : ℕ) (h : List ℕ) (j : ℕ) → getD (lists n h) j [] ≡ along (leads h) n (getD h (n + j) 0)
-unfolding lists along
+pub lists-at : (n : ℕ) (h : List ℕ) (j : ℕ) → getD (lists n h) j [] ≡ along (leads h) n (getD h (n + j) 0)
+unfolding lists
 lists-at n h j =
-    ap (getD (map (along (leads h) n) (drop n h)) j) (sym (nothing n))
+    ap (getD (map (along (leads h) n) (drop n h)) j) (sym (along-none (leads h) n))
     ∙ List·getD-map (along (leads h) n) (drop n h) j 0
     ∙ ap (along (leads h) n) (getD-drop n h j 0)
-  where
-    nothing : (k : ℕ) → along (leads h) k 0 ≡ []
-    nothing zero = refl
-    nothing (suc k) = refl
 
 -- a half of lists is read as these lists
 half-seen : {n : ℕ} (h : List ℕ) {ls : List (List ℕ)} → length h ≡ n + length ls → Once n ls → Half n (leads h) ls → lists n h ≡ ls

@@ -1,6 +1,5 @@
 pub mod Tops
 pub mod Fitting
-pub mod Stopping
 pub mod Asking
 pub mod Counting
 pub mod Counted

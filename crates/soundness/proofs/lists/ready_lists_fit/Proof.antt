@@ -9,7 +9,7 @@ use native.Mathlib.Omega.{arith}
 use lib.ListN.{getD}
 use Rattle.sequences.specs.Lists.{every-below}
 use Rattle.soundness.specs.Lists.{list-fits}
-use Rattle.soundness.proofs.Stopping.{one-passes, one-fails}
+use Rattle.sequences.proofs.Stopping.{one-passes, one-fails}
 use Rattle.soundness.proofs.lists.ready_lists_fit.Statement.{statement}
 use Rattle.soundness.proofs.lists.ready_lists_fit.Tie as tie
 

@@ -10,7 +10,7 @@ use Rattle.sequences.specs.Lists.{every-below}
 use Rattle.model.specs.declared.tables.IdList.{IdList}
 use Rattle.model.specs.Before.{list-at}
 use Rattle.soundness.specs.Lists.{wait-list-fits}
-use Rattle.soundness.proofs.Stopping.{one-passes, one-fails}
+use Rattle.sequences.proofs.Stopping.{one-passes, one-fails}
 use Rattle.soundness.proofs.lists.wait_lists_fit.Statement.{statement}
 use Rattle.soundness.proofs.lists.wait_lists_fit.Tie as tie
 

@@ -14,7 +14,7 @@ use Rattle.model.specs.declared.tables.Mutex.{Mutex}
 use Rattle.table.specs.Owners.{owns-one-of}
 use Rattle.model.specs.Before.{thread-at}
 use Rattle.soundness.specs.Records.{thread-fits}
-use Rattle.soundness.proofs.Stopping.{one-passes, one-fails}
+use Rattle.sequences.proofs.Stopping.{one-passes, one-fails}
 use Rattle.soundness.proofs.threads.threads_fit.Statement.{statement}
 use Rattle.soundness.proofs.threads.threads_fit.Tie as tie
 
