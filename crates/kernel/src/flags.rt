@@ -14,7 +14,7 @@ use model::lists::FLAGS_LIST;
 use model::requests::Request;
 use model::tables::Flags;
 use model::tables::Table;
-use table::conditions;
+use rules::conditions;
 use table::storing;
 use table::threads;
 use table::waking;

@@ -14,7 +14,7 @@ use model::lists::MUTEX_LIST;
 use model::requests::Request;
 use model::tables::Mutex;
 use model::tables::Table;
-use table::owners;
+use rules::owners;
 use table::priorities;
 use table::storing;
 use table::threads;

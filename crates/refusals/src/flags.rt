@@ -16,7 +16,7 @@ use model::calls::WAIT;
 use model::requests::Request;
 use model::tables::NOBODY;
 use model::tables::Table;
-use table::conditions;
+use rules::conditions;
 use table::objects;
 
 fn create_flags(t: Table, q: Request) -> Answer

@@ -13,8 +13,8 @@ use model::calls::CREATE_MUTEX;
 use model::requests::Request;
 use model::tables::NOBODY;
 use model::tables::Table;
+use rules::owners;
 use table::objects;
-use table::owners;
 
 fn create_mutex(t: Table, q: Request) -> Answer
     ensures { λ r. ⌜ ((rows : Rows) → r ≡ first-due (answers create-mutex q (view t rows))) ⌝ }

@@ -12,6 +12,7 @@ use model::answers::Answer;
 use model::calls::START_TIMER;
 use model::requests::Request;
 use model::tables::Table;
+use rules::actions;
 use table::objects;
 
 fn start_timer(t: Table, q: Request) -> Answer
@@ -23,7 +24,7 @@ fn start_timer(t: Table, q: Request) -> Answer
     let object = q.c / 256;
     let named = objects::names_object(semaphores, flags, kind, object);
     let period = request_fields::is_positive_32(q.a);
-    let action = objects::action_in_range(kind, object, q.d);
+    let action = actions::action_in_range(kind, object, q.d);
     let mut due = due::nothing();
     due.object = !((q.id < 8) & named);
     due.number = !(period & (q.b <= 1) & action);

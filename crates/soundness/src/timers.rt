@@ -26,7 +26,7 @@ pub fn timer_fits(t: Timer, named: bool) -> bool
     ensures { λ r. ⌜ r ≡ timer-fits t named ⌝ }
 {
     let zero = zero_timer(t);
-    let in_range = table::objects::action_in_range(t.kind as u32, t.object as u32, t.mask as u32);
+    let in_range = rules::actions::action_in_range(t.kind as u32, t.object as u32, t.mask as u32);
     (t.repeat <= 1) & (t.left <= t.period) & ((t.period != 0) | zero) & (named & in_range)
 }
 

@@ -37,7 +37,7 @@ pub fn member_fits(kind: u8, mark: u16, t: Thread) -> bool
     } else if kind <= OF_OBJECT {
         true
     } else {
-        let met = table::conditions::holds(t.mode, t.mask, mark);
+        let met = rules::conditions::holds(t.mode, t.mask, mark);
         !met & ((0 < t.mask) & (t.mode <= ALL_CLEAR))
     }
 }

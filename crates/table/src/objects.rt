@@ -1,12 +1,9 @@
-// What an id names, whether that is there, and the rules for a timer's action (01, Calls, call 19). An id or a number may be any of 32 bits;
-// what isn't there is all zero.
+// What an id names, and whether that is there. An id or a number may be any of 32 bits; what isn't there is all zero.
 ghost use mathlib.Core.Path.{_≡_};
 ghost use lib.ListN.{getD};
 ghost use Rattle.model.specs.State.{absent-thread, absent-semaphore, absent-mutex, absent-flags};
-ghost use Rattle.model.specs.Ranges.{action-in-range};
 ghost use Rattle.table.specs.Objects.{thread-there, semaphore-there, mutex-there, flags-there, names-one-of};
 use crate::fresh;
-use model::actions::NOTHING;
 use model::actions::POST;
 use model::actions::SET_FLAGS;
 use model::tables::Flags;
@@ -95,19 +92,5 @@ pub fn names_object(semaphores: [Semaphore; 8], flags: [Flags; 4], kind: u32, ob
         flags_there(flags, object)
     } else {
         true
-    }
-}
-
-pub fn action_in_range(kind: u32, object: u32, mask: u32) -> bool
-    ensures { λ r. ⌜ r ≡ action-in-range kind object mask ⌝ }
-{
-    if kind == NOTHING {
-        (object == 0) & (mask == 0)
-    } else if kind == POST {
-        mask == 0
-    } else if kind == SET_FLAGS {
-        (0 < mask) & (mask <= 65535)
-    } else {
-        false
     }
 }

@@ -4,8 +4,8 @@ use Prim.Native.Nat.{ℕ, zero, suc}
 use lib.Bits.{bitAnd}
 use lib.Dec.{eqb}
 use Rattle.model.specs.Words.{holds}
-use Rattle.table.proofs.conditions.holds.Statement.{statement}
-use Rattle.table.proofs.conditions.holds.Tie as tie
+use Rattle.rules.proofs.conditions.holds.Statement.{statement}
+use Rattle.rules.proofs.conditions.holds.Tie as tie
 
 returns : tie.Need-returns
 returns c = rw (c .if1 .taken)

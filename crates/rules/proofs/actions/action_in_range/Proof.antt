@@ -1,10 +1,10 @@
--- `objects::action_in_range` meets its contract: each branch is the definition's clause for its kind.
+-- `actions::action_in_range` meets its contract: each branch is the definition's clause for its kind.
 use mathlib.Core.Path.{_≡_, refl}
 use mathlib.Core.Bool.{false}
 use Prim.Native.Nat.{ℕ, zero, suc}
 use Rattle.model.specs.Ranges.{action-in-range}
-use Rattle.table.proofs.objects.action_in_range.Statement.{statement}
-use Rattle.table.proofs.objects.action_in_range.Tie as tie
+use Rattle.rules.proofs.actions.action_in_range.Statement.{statement}
+use Rattle.rules.proofs.actions.action_in_range.Tie as tie
 
 no-other-kind : (kind object mask : ℕ) → (kind ≡ 0 → ⊥) → (kind ≡ 1 → ⊥) → (kind ≡ 2 → ⊥) → false ≡ action-in-range kind object mask
 no-other-kind zero object mask a b c = absurd (a refl)
