@@ -160,6 +160,13 @@ pub fn set_limit(image: &mut [u8], i: usize, x: u32)
     packed::put_u32(image, THREADS + THREAD_LENGTH * i + LIMIT, x);
 }
 
+pub fn result(image: &[u8], i: usize) -> u8
+    requires { ⌜ Named 16 (now image) i ⌝ }
+    ensures { λ r. ⌜ r ≡ thread i (view (now (image .entry))) .result ⌝ }
+{
+    image[THREADS + THREAD_LENGTH * i + RESULT]
+}
+
 pub fn set_result(image: &mut [u8], i: usize, x: u8)
     requires { ⌜ Named 16 (now image) i ⌝ }
     ensures { λ _. ⌜ Alters (now (image .entry)) (alter-thread i (with-result x)) (now (image .exit)) ⌝ }

@@ -3,3 +3,4 @@ pub mod Frames
 pub mod Listed
 pub mod Fitting
 pub mod Images
+pub mod Viewed
