@@ -1,9 +1,10 @@
--- What functions on a lent image ask and hand back: an image by its length, a number that names one of so many, and an image that is the old one
--- but for what a word of the model changes in its view.
+-- What functions on a lent image ask and hand back: an image by its length, a number that names one of so many, an image that is the old one
+-- but for what a word of the model changes in its view, and fields that are read together.
 use mathlib.Core.Path.{_≡_}
 use mathlib.Core.List.{List}
-use Prim.Native.Nat.{ℕ, _<_}
+use Prim.Native.Nat.{ℕ, _+_, _*_, _<_}
 use lib.ListN.{length}
+use Rattle.model.specs.declared.tables.Thread.{Thread}
 use Rattle.model.specs.State.{State}
 use Rattle.model.specs.Layout.{view, links-part, image-length}
 
@@ -21,3 +22,7 @@ pub record Alters (b : List ℕ) (f : State → State) (r : List ℕ) : Type 0 w
   pub size : Sized r
   pub view : view r ≡ f (view b)
   pub links : links-part r ≡ links-part b
+
+-- what a wait has left in a thread, as one number: result, mask and mode stand side by side
+abbrev pub ending : Thread → ℕ
+ending t = t .result + 256 * t .mask + 16777216 * t .mode

@@ -3,7 +3,7 @@ ghost use mathlib.Core.Path.{_≡_};
 ghost use Rattle.sequences.specs.Records.{bytes-of};
 ghost use Rattle.model.specs.Parts.{thread, alter-thread, with-base, with-current, with-quantum, with-left, with-wait, with-limit, with-result, with-delivered};
 ghost use Rattle.model.specs.Layout.{view, threads-at};
-ghost use Rattle.fields.specs.Fields.{Named, Alters};
+ghost use Rattle.fields.specs.Fields.{Named, Alters, ending};
 use crate::places::THREAD_LENGTH;
 use crate::places::THREADS;
 use model::tables::Thread;
@@ -200,6 +200,14 @@ fn set_mode(image: &mut [u8], i: usize, x: u8)
     ensures { λ _. ⌜ Alters (now (image .entry)) (alter-thread i (λ t. with-wait (t .limit) (t .result) (t .mask) x t)) (now (image .exit)) ⌝ }
 {
     image[THREADS + THREAD_LENGTH * i + MODE] = x;
+}
+
+// Result, mask and mode as one number, as they stand side by side.
+pub fn ending(image: &[u8], i: usize) -> u32
+    requires { ⌜ Named 16 (now image) i ⌝ }
+    ensures { λ r. ⌜ r ≡ ending (thread i (view (now (image .entry)))) ⌝ }
+{
+    packed::u32_at(image, THREADS + THREAD_LENGTH * i + RESULT)
 }
 
 // What a wait and its end write.

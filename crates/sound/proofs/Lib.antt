@@ -1,0 +1,15 @@
+pub mod Endings
+pub mod Marks
+pub mod Places
+pub mod Falling
+pub mod ByKind
+pub mod Sorted
+pub mod AtThread
+pub mod StandingClauses
+pub mod ClausesStanding
+pub mod ThreadsAsked
+pub mod Shapes
+pub mod OneObject
+pub mod ObjectsAsked
+pub mod Passed
+pub mod AskedSound

@@ -1,0 +1,207 @@
+// The threads, each by the list that it was noted on (01, The table, the paragraph on soundness).
+ghost use mathlib.Core.Path.{_≡_};
+ghost use Prim.Native.Nat.{_<_, _≤_};
+ghost use Rattle.model.specs.Parts.{thread, flag-object};
+ghost use Rattle.model.specs.Sound.{zero-thread};
+ghost use Rattle.model.specs.Layout.{view};
+ghost use Rattle.fields.specs.Fields.{Named};
+ghost use Rattle.sound.specs.Asked.{Followed, previous-link, nothing-of, priority-fits, quantum-fits, idle, asleep};
+ghost use Rattle.sound.specs.Asked.{behind-previous, awaits, waits-right, rests-right, stands-right, thread-asked, threads-asked};
+use fields::flags;
+use fields::places::LINKS;
+use fields::places::PREVIOUS;
+use fields::places::PRIORITY_COUNT;
+use fields::places::THREAD_COUNT;
+use fields::threads;
+use model::lists::FLAGS_LIST;
+use model::lists::SEMAPHORE_LIST;
+use model::lists::STOPPED_LIST;
+use model::modes::ALL_CLEAR;
+use model::tables::Thread;
+use rules::conditions;
+use words::owners;
+
+// ---- on no list
+
+// Every field 0, those of one width together.
+fn is_zero(t: Thread) -> bool
+    ensures { λ r. ⌜ r ≡ zero-thread t ⌝ }
+{
+    let bytes = (t.created == 0)
+        & (t.base == 0)
+        & (t.current == 0)
+        & (t.result == 0)
+        & (t.mode == 0);
+    let words = (t.quantum == 0) & (t.left == 0) & (t.mask == 0) & (t.delivered == 0);
+    bytes & words & (t.limit == 0)
+}
+
+fn is_nothing(image: &[u8], i: usize) -> bool
+    requires { ⌜ Named 16 (now image) i ⌝ }
+    ensures { λ r. ⌜ r ≡ nothing-of i (now (image .entry)) ⌝ }
+{
+    let t = threads::thread(image, i);
+    is_zero(t) & ((image[LINKS + i] == 0) & (image[PREVIOUS + i] == 0))
+}
+
+// ---- on any list
+
+fn priority_fits(image: &[u8], i: usize) -> bool
+    requires { ⌜ Named 16 (now image) i ⌝ }
+    ensures { λ r. ⌜ r ≡ priority-fits i (view (now (image .entry))) ⌝ }
+{
+    let base = threads::base(image, i);
+    let current = threads::current(image, i);
+    if PRIORITY_COUNT <= (current as usize) {
+        return false;
+    }
+    if base == current {
+        return true;
+    }
+    if current < base {
+        return false;
+    }
+    owners::owns_any(image, i as u8)
+}
+
+fn quantum_fits(image: &[u8], i: usize) -> bool
+    requires { ⌜ Named 16 (now image) i ⌝ }
+    ensures { λ r. ⌜ r ≡ quantum-fits (thread i (view (now (image .entry)))) ⌝ }
+{
+    let quantum = threads::quantum(image, i);
+    let left = threads::left(image, i);
+    if (0 < left) & (left <= quantum) {
+        return true;
+    }
+    (left == 0) & (quantum == 0)
+}
+
+// Ready or stopped.
+fn is_idle(image: &[u8], i: usize) -> bool
+    requires { ⌜ Named 16 (now image) i ⌝ }
+    ensures { λ r. ⌜ r ≡ idle (thread i (view (now (image .entry)))) ⌝ }
+{
+    if threads::limit(image, i) != 0 {
+        return false;
+    }
+    threads::ending(image, i) <= 2
+}
+
+fn is_asleep(image: &[u8], i: usize) -> bool
+    requires { ⌜ Named 16 (now image) i ⌝ }
+    ensures { λ r. ⌜ r ≡ asleep (thread i (view (now (image .entry)))) ⌝ }
+{
+    if threads::limit(image, i) == 0 {
+        return false;
+    }
+    threads::ending(image, i) == 0
+}
+
+// ---- on a wait list
+
+fn is_behind(image: &[u8], i: usize) -> bool
+    requires { ⌜ Named 16 (now image) i ⌝ }
+    requires { ⌜ previous-link i (now image) ≤ 16 ⌝ }
+    ensures { λ r. ⌜ r ≡ behind-previous i (now (image .entry)) ⌝ }
+{
+    let link = image[PREVIOUS + i];
+    if link == 0 {
+        return true;
+    }
+    threads::current(image, i) <= threads::current(image, (link as usize) - 1)
+}
+
+fn awaits(image: &[u8], i: usize, o: usize) -> bool
+    requires { ⌜ Named 16 (now image) i ⌝ }
+    requires { ⌜ o < 4 ⌝ }
+    ensures { λ r. ⌜ r ≡ awaits (flag-object o (view (now (image .entry))) .word) (thread i (view (now (image .entry)))) ⌝ }
+{
+    let mask = threads::mask(image, i);
+    let mode = threads::mode(image, i);
+    if mask == 0 {
+        return false;
+    }
+    if ALL_CLEAR < mode {
+        return false;
+    }
+    !conditions::holds(mode, mask, flags::word(image, o))
+}
+
+fn waits_right(image: &[u8], i: usize, j: usize) -> bool
+    requires { ⌜ Named 16 (now image) i ⌝ }
+    requires { ⌜ (previous-link i (now image) ≤ 16) × (j < 18) ⌝ }
+    ensures { λ r. ⌜ r ≡ waits-right j i (now (image .entry)) ⌝ }
+{
+    if !is_behind(image, i) {
+        return false;
+    }
+    if j < FLAGS_LIST {
+        return threads::ending(image, i) == 0;
+    }
+    if threads::result(image, i) != 0 {
+        return false;
+    }
+    awaits(image, i, j - FLAGS_LIST)
+}
+
+// ---- all of it
+
+fn rests_right(image: &[u8], i: usize, j: usize) -> bool
+    requires { ⌜ Named 16 (now image) i ⌝ }
+    requires { ⌜ (previous-link i (now image) ≤ 16) × (j < 18) ⌝ }
+    ensures { λ r. ⌜ r ≡ rests-right j i (now (image .entry)) ⌝ }
+{
+    if j == STOPPED_LIST {
+        return is_idle(image, i);
+    }
+    if j < SEMAPHORE_LIST {
+        return is_asleep(image, i);
+    }
+    waits_right(image, i, j)
+}
+
+fn stands_right(image: &[u8], i: usize, j: usize) -> bool
+    requires { ⌜ Named 16 (now image) i ⌝ }
+    requires { ⌜ (previous-link i (now image) ≤ 16) × (j < 26) ⌝ }
+    ensures { λ r. ⌜ r ≡ stands-right j i (now (image .entry)) ⌝ }
+{
+    if threads::created(image, i) != 1 {
+        return false;
+    }
+    if !priority_fits(image, i) {
+        return false;
+    }
+    if !quantum_fits(image, i) {
+        return false;
+    }
+    if j < PRIORITY_COUNT {
+        return ((threads::current(image, i) as usize) == j) & is_idle(image, i);
+    }
+    rests_right(image, i, j - PRIORITY_COUNT)
+}
+
+// By its mark.
+fn thread_fits(image: &[u8], i: usize, mark: u8) -> bool
+    requires { ⌜ Named 16 (now image) i ⌝ }
+    requires { ⌜ (0 < mark → previous-link i (now image) ≤ 16) × (mark ≤ 26) ⌝ }
+    ensures { λ r. ⌜ r ≡ thread-asked mark i (now (image .entry)) ⌝ }
+{
+    if mark == 0 {
+        return is_nothing(image, i);
+    }
+    stands_right(image, i, (mark as usize) - 1)
+}
+
+pub fn threads_fit(image: &[u8], marks: &[u8]) -> bool
+    requires { ⌜ Followed (now image) (now marks) ⌝ }
+    ensures { λ r. ⌜ r ≡ threads-asked (now (marks .entry)) (now (image .entry)) ⌝ }
+{
+    let mut i: usize = 0;
+    while i < THREAD_COUNT {
+        if !thread_fits(image, i, marks[i]) {
+            return false;
+        }
+        i += 1;
+    }
+    true
+}
