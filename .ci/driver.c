@@ -6,17 +6,12 @@
  * The image and the report lie against pages that can't be touched, the image at their end and at their beginning in turn, so that a byte
  * read or written outside stops the program; every so often the image is write-protected while it is only looked at.
  */
-#define _DEFAULT_SOURCE
+#include "guarded.h"
 #include "ordizgum.h"
-#include <stdio.h>
-#include <stdlib.h>
 #include <string.h>
-#include <sys/mman.h>
-#include <unistd.h>
 
-enum { LONGEST = 8192, PROTECT_EVERY = 64 };
-enum { NUMBER = 4, REQUEST = 6 }; /* a number's bytes in a case, and a request's numbers */
-enum { CHOSEN_AT = 5 };           /* docs/IMAGE.md */
+enum { PROTECT_EVERY = 64 };
+enum { CHOSEN_AT = 5 }; /* docs/IMAGE.md */
 
 static unsigned long number_of_case;
 static int failures;
@@ -24,28 +19,6 @@ static int failures;
 static void differs(const char *what) {
     fprintf(stderr, "case %lu: %s\n", number_of_case, what);
     failures++;
-}
-
-static void stop(const char *what) {
-    perror(what);
-    exit(2);
-}
-
-/* Room of so many bytes, a multiple of a page, between two pages that can't be touched. */
-static uint8_t *guarded(size_t room) {
-    size_t page = (size_t)sysconf(_SC_PAGESIZE);
-    uint8_t *all = mmap(NULL, room + 2 * page, PROT_NONE, MAP_PRIVATE | MAP_ANONYMOUS, -1, 0);
-    if (all == MAP_FAILED || mprotect(all + page, room, PROT_READ | PROT_WRITE) != 0) stop("guarded memory");
-    return all + page;
-}
-
-static uint32_t get32(const uint8_t *p) {
-    return (uint32_t)p[0] | (uint32_t)p[1] << 8 | (uint32_t)p[2] << 16 | (uint32_t)p[3] << 24;
-}
-
-static void put32(uint32_t n) {
-    uint8_t bytes[NUMBER] = {(uint8_t)n, (uint8_t)(n >> 8), (uint8_t)(n >> 16), (uint8_t)(n >> 24)};
-    if (fwrite(bytes, 1, NUMBER, stdout) != NUMBER) stop("standard output");
 }
 
 /* What is only looked at: soundness and the next wake-up. */
@@ -61,10 +34,11 @@ static uint32_t look(uint8_t *room, const uint8_t *image, size_t length, uint32_
 }
 
 static void one_case(uint8_t *room, size_t length, uint32_t *report) {
-    uint8_t *image = number_of_case % 2 == 0 ? room + LONGEST - length : room;
+    uint8_t *image = against_a_page(room, length, number_of_case);
     uint8_t request[REQUEST * NUMBER];
     uint32_t asked[REQUEST], next[1], unsound, answer;
-    if (fread(image, 1, length, stdin) != length || fread(request, 1, sizeof request, stdin) != sizeof request) stop("a case is short");
+    read_part(image, length);
+    read_part(request, sizeof request);
     for (int i = 0; i < REQUEST; i++) asked[i] = get32(request + NUMBER * i);
     unsound = look(room, image, length, next);
     for (int i = 0; i < ORDIZGUM_REPORT_LENGTH; i++) report[i] = 0xA5A5A5A5u;
@@ -94,14 +68,11 @@ static void fresh_images(uint8_t *room) {
 }
 
 int main(void) {
-    uint8_t *room = guarded(LONGEST), *reports = guarded(LONGEST), head[NUMBER];
+    uint8_t *room = guarded(LONGEST), *reports = guarded(LONGEST);
+    size_t length;
     uint32_t *report = (uint32_t *)(void *)(reports + LONGEST) - ORDIZGUM_REPORT_LENGTH;
     fresh_images(room);
-    while (fread(head, 1, NUMBER, stdin) == NUMBER) {
-        if (get32(head) > LONGEST) stop("an image is too long");
-        one_case(room, get32(head), report);
-        number_of_case++;
-    }
+    for (; next_case(&length); number_of_case++) one_case(room, length, report);
     if (fflush(stdout) != 0) stop("standard output");
     return failures != 0;
 }

@@ -76,7 +76,7 @@ fn quantum_fits(image: &[u8], i: usize) -> bool
     (left == 0) & (quantum == 0)
 }
 
-// Ready or stopped.
+// Ready or stopped: no limit, a result of 2 at most, and no mask or mode, which would make the number larger.
 fn is_idle(image: &[u8], i: usize) -> bool
     requires { ⌜ Named 16 (now image) i ⌝ }
     ensures { λ r. ⌜ r ≡ idle (thread i (view (now (image .entry)))) ⌝ }
@@ -87,6 +87,7 @@ fn is_idle(image: &[u8], i: usize) -> bool
     threads::ending(image, i) <= 2
 }
 
+// A limit, and no result, mask or mode.
 fn is_asleep(image: &[u8], i: usize) -> bool
     requires { ⌜ Named 16 (now image) i ⌝ }
     ensures { λ r. ⌜ r ≡ asleep (thread i (view (now (image .entry)))) ⌝ }
@@ -99,6 +100,7 @@ fn is_asleep(image: &[u8], i: usize) -> bool
 
 // ---- on a wait list
 
+// No higher than who stands before it.
 fn is_behind(image: &[u8], i: usize) -> bool
     requires { ⌜ Named 16 (now image) i ⌝ }
     requires { ⌜ previous-link i (now image) ≤ 16 ⌝ }
