@@ -25,7 +25,7 @@ use Rattle.theorems.specs.Lawful.{Steady}
 use Rattle.theorems.proofs.Choosing.{sound-steady}
 use Rattle.theorems.proofs.Passed.{refuses, passed}
 use Rattle.theorems.proofs.Running.{running-ready}
-use Rattle.refusals.proofs.InRange.{there-below}
+use Rattle.rules.proofs.InRange.{there-below}
 use Rattle.kernel.specs.Allowed.{Allowed}
 
 module _ {c : Call} {q : Request} {t : Table} {rows : layout.Rows} (a : Allowed c q t rows) where

@@ -1,3 +1,1 @@
 pub mod Allowed
-pub mod Effect
-pub mod Meeting

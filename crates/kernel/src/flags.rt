@@ -5,8 +5,8 @@ ghost use Rattle.model.specs.Effects.{create-flags-effect, wait-effect, change-
 ghost use Rattle.model.specs.Before.{Rows};
 ghost use Rattle.table.specs.Orderly.{Whole, Given, Meets, Does};
 ghost use Rattle.kernel.specs.Allowed.{Allowed, Accepted};
-ghost use Rattle.kernel.specs.Effect.{effect};
-ghost use Rattle.kernel.specs.Meeting.{wake-met};
+ghost use Rattle.theorems.specs.Effect.{effect};
+ghost use Rattle.theorems.specs.Meeting.{wake-met};
 use model::calls::CREATE_FLAGS;
 use model::calls::SET;
 use model::calls::WAIT;

@@ -8,7 +8,7 @@ ghost use Rattle.model.specs.Kernel.{judge, perform, next-state, call};
 ghost use Rattle.model.specs.Before.{view, sound-table, laid};
 ghost use Rattle.table.specs.Orderly.{Does};
 ghost use Rattle.kernel.specs.Allowed.{Accepted};
-ghost use Rattle.kernel.specs.Effect.{effect};
+ghost use Rattle.theorems.specs.Effect.{effect};
 use model::answers::Answer;
 use model::answers::Reply;
 use model::answers::Report;
@@ -19,7 +19,7 @@ use model::calls::SCHEDULING;
 use model::calls::START_TIMER;
 use model::requests::Request;
 use model::tables::Table;
-use refusals::numbers;
+use rules::numbers;
 use table::choosing;
 
 pub mod flags;

@@ -7,7 +7,7 @@ ghost use Rattle.model.specs.Effects.{create-mutex-effect, raise, claim-effect,
 ghost use Rattle.model.specs.Before.{Rows, thread-at};
 ghost use Rattle.table.specs.Orderly.{Whole, Given, Meets, Does};
 ghost use Rattle.kernel.specs.Allowed.{Allowed, Accepted};
-ghost use Rattle.kernel.specs.Effect.{effect};
+ghost use Rattle.theorems.specs.Effect.{effect};
 use model::calls::CLAIM;
 use model::calls::CREATE_MUTEX;
 use model::lists::MUTEX_LIST;

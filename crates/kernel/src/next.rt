@@ -4,7 +4,7 @@ ghost use mathlib.Core.Bool.{cond};
 ghost use mathlib.Core.List.{map};
 ghost use lib.Dec.{leb};
 ghost use lib.ListN.{getD};
-ghost use Rattle.sequences.specs.Lists.{nearest, nearer};
+ghost use Rattle.sequences.specs.Lists.{nearest};
 ghost use Rattle.model.specs.declared.tables.Thread.{Thread};
 ghost use Rattle.model.specs.declared.tables.Timer.{Timer};
 ghost use Rattle.model.specs.Parts.{thread};
@@ -15,14 +15,8 @@ ghost use Rattle.table.specs.Orderly.{Orderly};
 use model::tables::Table;
 use model::tables::Thread;
 use model::tables::Timer;
+use rules::counting;
 use table::objects;
-
-// The lesser of two counters, where 0 means that a counter doesn't run.
-pub fn nearer(a: u32, b: u32) -> u32
-    ensures { λ r. ⌜ r ≡ nearer a b ⌝ }
-{
-    if (a == 0) | ((0 < b) & (b < a)) { b } else { a }
-}
 
 fn nearest_timer(timers: [Timer; 8]) -> u32
     ensures { λ r. ⌜ r ≡ nearest (map (λ (t : Timer). t .left) timers) ⌝ }
@@ -32,7 +26,7 @@ fn nearest_timer(timers: [Timer; 8]) -> u32
     while 0 < o {
         o = o - 1;
         let x = timers[o];
-        least = nearer(x.left, least);
+        least = counting::nearer(x.left, least);
     }
     least
 }
@@ -45,7 +39,7 @@ fn nearest_limit(threads: [Thread; 16]) -> u32
     while 0 < i {
         i = i - 1;
         let x = threads[i];
-        least = nearer(x.limit, least);
+        least = counting::nearer(x.limit, least);
     }
     least
 }
@@ -83,6 +77,6 @@ pub fn next_wake_up(t: Table) -> u32
     let quantum = quantum_left(t) as u32;
     let timer = nearest_timer(timers);
     let limit = nearest_limit(all);
-    let later = nearer(timer, limit);
-    nearer(quantum, later)
+    let later = counting::nearer(timer, limit);
+    counting::nearer(quantum, later)
 }

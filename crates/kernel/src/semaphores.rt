@@ -6,7 +6,7 @@ ghost use Rattle.model.specs.Effects.{create-semaphore-effect, pend-effect, one
 ghost use Rattle.model.specs.Before.{Rows};
 ghost use Rattle.table.specs.Orderly.{OrderlyTable, Whole, Meets, Does};
 ghost use Rattle.kernel.specs.Allowed.{Allowed, Accepted};
-ghost use Rattle.kernel.specs.Effect.{effect};
+ghost use Rattle.theorems.specs.Effect.{effect};
 use model::calls::CREATE_SEMAPHORE;
 use model::calls::PEND;
 use model::lists::SEMAPHORE_LIST;

@@ -2,11 +2,11 @@
 ghost use mathlib.Core.Path.{_≡_};
 ghost use Prim.Native.Nat.{_<_, _≤_};
 ghost use Rattle.model.specs.Calls.{create-thread, start, stop, exit, yield, sleep, set-priority, set-quantum};
-ghost use Rattle.model.specs.Effects.{new-thread, new-current, create-thread-effect, start-effect, stop-effect, exit-effect, yield-effect, sleep-effect, set-priority-effect, set-quantum-effect};
+ghost use Rattle.model.specs.Effects.{new-current, create-thread-effect, start-effect, stop-effect, exit-effect, yield-effect, sleep-effect, set-priority-effect, set-quantum-effect};
 ghost use Rattle.model.specs.Before.{Rows, view};
 ghost use Rattle.table.specs.Orderly.{Meets, Does};
 ghost use Rattle.kernel.specs.Allowed.{Allowed, Accepted};
-ghost use Rattle.kernel.specs.Effect.{effect};
+ghost use Rattle.theorems.specs.Effect.{effect};
 use model::calls::CREATE_THREAD;
 use model::calls::EXIT;
 use model::calls::SET_PRIORITY;
@@ -17,31 +17,12 @@ use model::calls::YIELD;
 use model::lists::STOPPED_LIST;
 use model::requests::Request;
 use model::tables::Table;
-use model::tables::Thread;
 use table::entering;
-use table::fresh;
 use table::leaving;
 use table::owners;
 use table::priorities;
 use table::threads;
 use table::waking;
-
-fn new_thread(priority: u8, quantum: u16) -> Thread
-    ensures { λ r. ⌜ r ≡ new-thread priority quantum ⌝ }
-{
-    Thread {
-        created: 1,
-        base: priority,
-        current: priority,
-        quantum: quantum,
-        left: quantum,
-        limit: 0,
-        result: 0,
-        mask: 0,
-        mode: 0,
-        delivered: 0,
-    }
-}
 
 // Call 1: last among the stopped.
 fn create_thread(t: Table, q: Request) -> Table
@@ -49,7 +30,7 @@ fn create_thread(t: Table, q: Request) -> Table
     ensures { λ r. ⌜ Meets t (create-thread-effect q) r ⌝ }
 {
     let i = q.id as u8;
-    let x = new_thread(q.a as u8, q.b as u16);
+    let x = rules::threads::new_thread(q.a as u8, q.b as u16);
     let u = threads::with_thread(t, i, x);
     entering::enter_tail(u, STOPPED_LIST, i)
 }
@@ -80,7 +61,7 @@ fn exit(t: Table, rows: &mut [[u8; 16]; 8], q: Request) -> Table
 {
     let i = t.chosen;
     let u = leaving::leave(t, &mut *rows, i);
-    let x = fresh::absent_thread();
+    let x = rules::threads::absent_thread();
     threads::with_thread(u, i, x)
 }
 

@@ -5,7 +5,7 @@ ghost use Rattle.model.specs.Effects.{start-timer-effect, stop-timer-effect};
 ghost use Rattle.model.specs.Before.{Rows};
 ghost use Rattle.table.specs.Orderly.{Meets};
 ghost use Rattle.kernel.specs.Allowed.{Allowed, Accepted};
-ghost use Rattle.kernel.specs.Effect.{effect};
+ghost use Rattle.theorems.specs.Effect.{effect};
 use model::calls::START_TIMER;
 use model::requests::Request;
 use model::tables::Table;

@@ -17,7 +17,8 @@ use Rattle.model.specs.Stored.{Stored, seen, is-sound, told, kept, next-told-by
 use Rattle.entries.proofs.Demand1.{unsound-kept, refused-kept}
 use Rattle.image.specs.Image.{image-of, image-length}
 use Rattle.image.proofs.RoundTrip.{written-read}
-use Rattle.port.specs.Port.{right-length, stored-in, as-image, sound-image, zero-if, unsound-report, report-of, image-after, next-in}
+use Rattle.rules.specs.Reports.{zero-if, unsound-report}
+use Rattle.port.specs.Port.{right-length, stored-in, as-image, sound-image, report-of, image-after, next-in}
 
 -- a choice between two things that are the same where the second would be taken
 taken-first : {A : Type 0} (b : Bool) (x y : A) → (b ≡ true) ⊎ (x ≡ y) → cond b x y ≡ x

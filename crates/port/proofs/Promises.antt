@@ -21,7 +21,8 @@ use Rattle.entries.proofs.Demand2.{fresh-stored, sound-kept}
 use Rattle.image.specs.Image.{image-length}
 use Rattle.image.proofs.RoundTrip.{written-read}
 use Rattle.image.proofs.SoundImage.{sound-read-written, sound-image-length, sound-bytes}
-use Rattle.port.specs.Port.{right-length, stored-in, as-image, sound-image, fresh-after, report-of, report-length, report-numbers, image-after, next-in}
+use Rattle.rules.specs.Reports.{report-length, report-numbers}
+use Rattle.port.specs.Port.{right-length, stored-in, as-image, sound-image, fresh-after, report-of, image-after, next-in}
 use Rattle.port.proofs.Images.{wrong-length, refused-in}
 
 -- a report has so many numbers

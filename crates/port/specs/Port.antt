@@ -1,18 +1,16 @@
 -- The C port: what each of its functions answers, reports and leaves in an image, for any bytes. An image of a wrong length is told as one
 -- that isn't sound: answer 1, and no byte changed.
 use mathlib.Core.Bool.{Bool, cond, _&&_}
-use mathlib.Core.List.{List, [], _∷_}
+use mathlib.Core.List.{List}
 use Prim.Native.Nat.{ℕ}
 use lib.Dec.{eqb}
 use lib.ListN.{length}
-use Rattle.model.specs.declared.answers.Answer.the-variants.{Unsound}
 use Rattle.model.specs.declared.answers.Report.{Report}
 use Rattle.model.specs.declared.requests.Request.{Request}
-use Rattle.model.specs.State.{nobody}
-use Rattle.model.specs.Answers.{number}
 use Rattle.model.specs.Time.{next}
 use Rattle.model.specs.Before.{fresh-table, fresh-rows}
 use Rattle.model.specs.Stored.{Stored, seen, is-sound, told, kept}
+use Rattle.rules.specs.Reports.{unsound-report}
 use Rattle.image.specs.Image.{image-length, image-of, table-of, rows-of}
 
 -- ---- images and tables
@@ -29,11 +27,6 @@ as-image k = image-of (k .table) (k .rows)
 unfoldable pub sound-image : List ℕ → Bool
 sound-image image = right-length image && is-sound (stored-in image)
 
--- ---- answers of the functions that only test: 0 for yes, 1 for no
-
-abbrev pub zero-if : Bool → ℕ
-zero-if b = cond b 0 1
-
 -- ---- a fresh image
 
 unfoldable pub fresh-after : List ℕ → List ℕ
@@ -41,21 +34,8 @@ fresh-after image = cond (right-length image) (image-of fresh-table fresh-rows) 
 
 -- ---- a call
 
-abbrev pub asked : ℕ → ℕ → ℕ → ℕ → ℕ → ℕ → Request
-asked call id a b c d = record { call = call; id = id; a = a; b = b; c = c; d = d }
-
-abbrev pub unsound-report : Report
-unsound-report = record { answer = Unsound; chosen = nobody; clock = 0; wakeups = 0; next = 0 }
-
 unfoldable pub report-of : List ℕ → Request → Report
 report-of image q = cond (sound-image image) (told (stored-in image) q) unsound-report
-
--- a report as numbers, and how many they are
-abbrev pub report-numbers : Report → List ℕ
-report-numbers r = number (r .answer) ∷ r .chosen ∷ r .clock ∷ r .wakeups ∷ r .next ∷ []
-
-abbrev pub report-length : ℕ
-report-length = 5
 
 unfoldable pub image-after : List ℕ → Request → List ℕ
 image-after image q = cond (sound-image image) (as-image (kept (stored-in image) q)) image

@@ -2,31 +2,14 @@
 ghost use mathlib.Core.Path.{_≡_};
 ghost use mathlib.Core.List.{[], _∷_};
 ghost use Rattle.model.specs.Answers.{number};
+ghost use Rattle.rules.specs.Reports.{zero-if, asked, report-numbers};
 ghost use Rattle.image.specs.Image.{image-length};
-ghost use Rattle.port.specs.Port.{right-length, sound-image, zero-if, fresh-after, asked, report-of, report-numbers, image-after, next-in};
+ghost use Rattle.port.specs.Port.{right-length, sound-image, fresh-after, report-of, image-after, next-in};
 use image::IMAGE_LENGTH;
-use model::answers::Report;
 use model::requests::Request;
-use model::tables::NOBODY;
-
-// Answer, chosen thread, clock, wake-ups, next wake-up.
-const REPORT_LENGTH: usize = 5;
-
-// What is told of an image that isn't sound, a wrong length among the reasons.
-const REFUSED: [u32; REPORT_LENGTH] = [1, NOBODY as u32, 0, 0, 0];
-
-fn as_numbers(told: Report) -> [u32; REPORT_LENGTH]
-    ensures { λ r. ⌜ r ≡ report-numbers told ⌝ }
-{
-    let answer = told.answer;
-    [
-        entries::number(answer),
-        told.chosen as u32,
-        told.clock,
-        told.wakeups,
-        told.next,
-    ]
-}
+use rules::reports;
+use rules::reports::REFUSED;
+use rules::reports::REPORT_LENGTH;
 
 #[no_mangle]
 pub extern "C" fn ordizgum_image_length() -> u32
@@ -95,7 +78,7 @@ pub extern "C" fn ordizgum_call(
     if entries::is_accepted(answer) {
         image::write(reply.table, rows, image);
     }
-    let numbers = as_numbers(told);
+    let numbers = reports::as_numbers(told);
     *report = numbers;
     numbers[0]
 }

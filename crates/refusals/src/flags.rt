@@ -1,15 +1,10 @@
 // The answers of calls 15 to 18.
 ghost use mathlib.Core.Path.{_≡_};
-ghost use mathlib.Core.Bool.{_&&_};
 ghost use Prim.Native.Nat.{_<_, _≤_};
-ghost use lib.Dec.{eqb, leb};
-ghost use Rattle.model.specs.Ranges.{is-positive-16, fits-32};
 ghost use Rattle.model.specs.Answers.{first-due};
 ghost use Rattle.model.specs.Calls.{answers, numbered, create-flags, wait, set, clear};
 ghost use Rattle.model.specs.Kernel.{judge};
 ghost use Rattle.model.specs.Before.{Rows, view};
-use crate::due;
-use crate::request_fields;
 use model::answers::Answer;
 use model::calls::CREATE_FLAGS;
 use model::calls::WAIT;
@@ -17,6 +12,8 @@ use model::requests::Request;
 use model::tables::NOBODY;
 use model::tables::Table;
 use rules::conditions;
+use rules::due;
+use rules::request_fields;
 use table::objects;
 
 fn create_flags(t: Table, q: Request) -> Answer
@@ -32,14 +29,6 @@ fn create_flags(t: Table, q: Request) -> Answer
     due::first(due)
 }
 
-// A mask, a mode, any limit, and nothing else.
-fn wait_fits(q: Request) -> bool
-    ensures { λ r. ⌜ r ≡ (is-positive-16 (q .a) && leb (q .b) 3 && fits-32 (q .c) && eqb (q .d) 0) ⌝ }
-{
-    let mask = request_fields::is_positive_16(q.a);
-    mask & (q.b <= 3) & (q.d == 0)
-}
-
 fn wait(t: Table, q: Request) -> Answer
     ensures { λ r. ⌜ ((rows : Rows) → r ≡ first-due (answers wait q (view t rows))) ⌝ }
 {
@@ -47,7 +36,7 @@ fn wait(t: Table, q: Request) -> Answer
     if !objects::flags_there(flags, q.id) {
         return Answer::NoObject;
     }
-    if !wait_fits(q) {
+    if !request_fields::wait_fits(q) {
         return Answer::BadNumber;
     }
     let x = objects::flag_object(flags, q.id);

@@ -16,12 +16,8 @@ use model::calls::START_TIMER;
 use model::requests::Request;
 use model::tables::Table;
 
-mod due;
 mod flags;
 mod mutexes;
-pub mod numbers;
-mod request_fields;
-mod scheduling;
 mod semaphores;
 mod threads;
 mod timers;
@@ -50,5 +46,5 @@ pub fn answer(t: Table, rows: [[u8; 16]; 8], q: Request) -> Answer
     if call < SCHEDULING {
         return timers::answer(t, q);
     }
-    scheduling::answer(q)
+    rules::scheduling::answer(q)
 }

@@ -5,15 +5,15 @@ ghost use Rattle.model.specs.Answers.{first-due};
 ghost use Rattle.model.specs.Calls.{answers, numbered, create-mutex, claim, release};
 ghost use Rattle.model.specs.Kernel.{judge};
 ghost use Rattle.model.specs.Before.{Rows, view};
-use crate::due;
-use crate::request_fields;
 use model::answers::Answer;
 use model::calls::CLAIM;
 use model::calls::CREATE_MUTEX;
 use model::requests::Request;
 use model::tables::NOBODY;
 use model::tables::Table;
+use rules::due;
 use rules::owners;
+use rules::request_fields;
 use table::objects;
 
 fn create_mutex(t: Table, q: Request) -> Answer

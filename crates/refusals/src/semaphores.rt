@@ -6,8 +6,6 @@ ghost use Rattle.model.specs.Calls.{answers, numbered, create-semaphore, pend, 
 ghost use Rattle.model.specs.Kernel.{judge};
 ghost use Rattle.model.specs.Before.{Rows, view};
 ghost use Rattle.table.specs.Orderly.{OrderlyTable};
-use crate::due;
-use crate::request_fields;
 use model::answers::Answer;
 use model::calls::CREATE_SEMAPHORE;
 use model::calls::PEND;
@@ -15,6 +13,8 @@ use model::lists::SEMAPHORE_LIST;
 use model::requests::Request;
 use model::tables::NOBODY;
 use model::tables::Table;
+use rules::due;
+use rules::request_fields;
 use table::objects;
 use table::standing;
 

@@ -7,8 +7,6 @@ ghost use Rattle.model.specs.Calls.{answers, numbered, create-thread, start, st
 ghost use Rattle.model.specs.Kernel.{judge};
 ghost use Rattle.model.specs.Before.{Rows, view, sound-table};
 ghost use Rattle.table.specs.Orderly.{OrderlyTable};
-use crate::due;
-use crate::request_fields;
 use model::answers::Answer;
 use model::calls::CREATE_THREAD;
 use model::calls::EXIT;
@@ -20,6 +18,8 @@ use model::calls::YIELD;
 use model::requests::Request;
 use model::tables::NOBODY;
 use model::tables::Table;
+use rules::due;
+use rules::request_fields;
 use table::objects;
 use table::owners;
 use table::standing;

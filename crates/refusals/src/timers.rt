@@ -2,17 +2,17 @@
 ghost use mathlib.Core.Path.{_≡_};
 ghost use Prim.Native.Nat.{_<_, _≤_};
 ghost use Rattle.model.specs.Answers.{first-due};
-ghost use Rattle.model.specs.Calls.{answers, numbered, start-timer, stop-timer};
-ghost use Rattle.model.specs.declared.tables.Table.{Table};
+ghost use Rattle.model.specs.Calls.{answers, numbered, start-timer};
 ghost use Rattle.model.specs.Kernel.{judge};
 ghost use Rattle.model.specs.Before.{Rows, view};
-use crate::due;
-use crate::request_fields;
 use model::answers::Answer;
 use model::calls::START_TIMER;
 use model::requests::Request;
 use model::tables::Table;
 use rules::actions;
+use rules::due;
+use rules::request_fields;
+use rules::timers;
 use table::objects;
 
 fn start_timer(t: Table, q: Request) -> Answer
@@ -31,16 +31,6 @@ fn start_timer(t: Table, q: Request) -> Answer
     due::first(due)
 }
 
-fn stop_timer(q: Request) -> Answer
-    ensures { λ r. ⌜ ((t : Table) (rows : Rows) → r ≡ first-due (answers stop-timer q (view t rows))) ⌝ }
-{
-    let unused = request_fields::unused_abcd(q);
-    let mut due = due::nothing();
-    due.object = 8 <= q.id;
-    due.number = !unused;
-    due::first(due)
-}
-
 pub fn answer(t: Table, q: Request) -> Answer
     requires { ⌜ (19 ≤ q .call) × (q .call < 21) ⌝ }
     ensures { λ r. ⌜ ((rows : Rows) → r ≡ judge (numbered (q .call)) q (view t rows)) ⌝ }
@@ -48,6 +38,6 @@ pub fn answer(t: Table, q: Request) -> Answer
     if q.call == START_TIMER {
         start_timer(t, q)
     } else {
-        stop_timer(q)
+        timers::stop_timer(q)
     }
 }

@@ -1,7 +1,7 @@
 // A fresh table and its rows (01, The table): nothing created, every number 0, every list empty, scheduling on, nobody chosen.
 ghost use mathlib.Core.Path.{_≡_};
 ghost use mathlib.Core.List.{[]};
-ghost use Rattle.model.specs.State.{absent-thread, absent-semaphore, absent-mutex, absent-flags, unused-timer};
+ghost use Rattle.model.specs.State.{absent-semaphore, absent-mutex, absent-flags, unused-timer};
 ghost use Rattle.model.specs.Before.{laid-list, fresh-table, fresh-rows};
 use model::tables::Flags;
 use model::tables::IdList;
@@ -9,26 +9,7 @@ use model::tables::Mutex;
 use model::tables::NOBODY;
 use model::tables::Semaphore;
 use model::tables::Table;
-use model::tables::Thread;
 use model::tables::Timer;
-
-// A thread that isn't there.
-pub fn absent_thread() -> Thread
-    ensures { λ r. ⌜ r ≡ absent-thread ⌝ }
-{
-    Thread {
-        created: 0,
-        base: 0,
-        current: 0,
-        quantum: 0,
-        left: 0,
-        limit: 0,
-        result: 0,
-        mask: 0,
-        mode: 0,
-        delivered: 0,
-    }
-}
 
 // A timer that was never started.
 fn unused_timer() -> Timer
@@ -87,7 +68,7 @@ fn empty_list() -> IdList
 pub fn fresh() -> Table
     ensures { λ r. ⌜ r ≡ fresh-table ⌝ }
 {
-    let thread = absent_thread();
+    let thread = rules::threads::absent_thread();
     let semaphore = absent_semaphore();
     let mutex = absent_mutex();
     let object = absent_flags();

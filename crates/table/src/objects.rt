@@ -18,7 +18,7 @@ pub fn thread(threads: [Thread; 16], i: u32) -> Thread
         let k = i as usize;
         threads[k]
     } else {
-        fresh::absent_thread()
+        rules::threads::absent_thread()
     }
 }
 

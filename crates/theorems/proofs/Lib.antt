@@ -21,6 +21,7 @@ pub mod FlagObjects
 pub mod Timers
 pub mod Ticking
 pub mod Accepting
+pub mod Meeting
 pub mod Heads
 pub mod Undisturbed
 -- many ticks at once
@@ -40,7 +41,10 @@ pub mod Spanned
 -- answers
 pub mod Lowest
 pub mod Replies
+pub mod Outcomes
 pub mod ByNumber
+pub mod Allowing
+pub mod Numbered
 -- the demands
 pub mod Demand1
 pub mod Demand2

@@ -15,7 +15,8 @@ use model::answers::Answer;
 use model::answers::Reply;
 use model::requests::Request;
 use model::tables::Table;
-use refusals::numbers;
+use rules::counting;
+use rules::numbers;
 use table::choosing;
 use table::storing;
 
@@ -47,7 +48,7 @@ fn leap(t: Table, rows: &mut [[u8; 16]; 8], gap: &mut u32) -> Table
     let all = *rows;
     let fifth = choosing::choose(fourth, all);
     let left = next::quantum_left(fifth) as u32;
-    *gap = next::nearer(left, *gap);
+    *gap = counting::nearer(left, *gap);
     fifth
 }
 

@@ -7,9 +7,9 @@ ghost use Rattle.model.specs.declared.tables.Thread.{Thread};
 ghost use Rattle.table.specs.Orderly.{Whole, Given, Does};
 ghost use Rattle.theorems.specs.Leap.{run-out, limit-leap};
 use crate::counters;
-use kernel::next;
 use model::lists::SLEEP_LIST;
 use model::tables::Table;
+use rules::counting;
 use table::lists;
 use table::waking;
 
@@ -46,7 +46,7 @@ pub fn leap_limits(t: Table, rows: &mut [[u8; 16]; 8], gap: u32, soonest: &mut u
             x.limit = counters::less(x.limit, gap);
             u.threads[k] = x;
         }
-        least = next::nearer(least, x.limit);
+        least = counting::nearer(least, x.limit);
         i += 1;
     }
     *soonest = least;

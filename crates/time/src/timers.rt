@@ -12,12 +12,12 @@ ghost use Rattle.theorems.specs.Leap.{timer-leap};
 ghost use Rattle.time.specs.Armed.{Aimed, Armed};
 use crate::counters;
 use kernel::flags;
-use kernel::next;
 use kernel::semaphores;
 use model::actions::NOTHING;
 use model::actions::POST;
 use model::tables::Table;
 use model::tables::Timer;
+use rules::counting;
 
 // One expiry more; a repeating timer starts anew.
 fn expired(x: Timer) -> Timer
@@ -71,7 +71,7 @@ pub fn leap_timers(t: Table, rows: &mut [[u8; 16]; 8], gap: u32, soonest: &mut u
             x.left = counters::less(x.left, gap);
             u.timers[o] = x;
         }
-        least = next::nearer(least, x.left);
+        least = counting::nearer(least, x.left);
         o += 1;
     }
     *soonest = least;

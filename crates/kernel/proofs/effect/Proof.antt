@@ -7,8 +7,9 @@ use Rattle.model.specs.Before.{view}
 use Rattle.table.specs.Orderly.{Orderly}
 use Rattle.table.proofs.Stored.{sound-whole}
 use Rattle.table.proofs.Views.{does}
-use Rattle.kernel.specs.Effect.{effect-of}
-use Rattle.kernel.proofs.Numbered.{allowed, meets-effect, call-number}
+use Rattle.theorems.specs.Effect.{effect-of}
+use Rattle.theorems.proofs.Numbered.{call-number}
+use Rattle.kernel.proofs.Numbered.{allowed, meets-effect}
 use borrow.Author.Needs.{needs}
 use Rattle.kernel.proofs.effect.Statement.{statement}
 use Rattle.kernel.proofs.effect.Tie as tie

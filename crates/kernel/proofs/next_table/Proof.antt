@@ -9,7 +9,7 @@ use Rattle.model.specs.Kernel.{judge, perform, next-state}
 use Rattle.model.specs.Before.{view}
 use Rattle.table.proofs.Stored.{sound-whole}
 use Rattle.table.proofs.Views.{same-word}
-use Rattle.kernel.proofs.Numbered.{call-number}
+use Rattle.theorems.proofs.Numbered.{call-number}
 use borrow.Author.Needs.{needs}
 use Rattle.kernel.proofs.next_table.Statement.{statement}
 use Rattle.kernel.proofs.next_table.Tie as tie

@@ -6,7 +6,7 @@ use Rattle.model.specs.Calls.{numbered}
 use Rattle.model.specs.Kernel.{perform}
 use Rattle.model.specs.Before.{view}
 use Rattle.table.proofs.Views.{and-then, same-word}
-use Rattle.kernel.proofs.Numbered.{performed}
+use Rattle.theorems.proofs.Numbered.{performed}
 use borrow.Author.Needs.{needs}
 use Rattle.kernel.proofs.perform.Statement.{statement}
 use Rattle.kernel.proofs.perform.Tie as tie

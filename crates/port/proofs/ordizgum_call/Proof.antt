@@ -13,7 +13,8 @@ use Rattle.model.specs.Answers.{accepted}
 use Rattle.model.specs.Before.{Rows, Laid, call-table}
 use Rattle.model.specs.Stored.{called}
 use Rattle.image.specs.Image.{image-of}
-use Rattle.port.specs.Port.{stored-in, asked, report-of, report-numbers, image-after}
+use Rattle.rules.specs.Reports.{asked, report-numbers}
+use Rattle.port.specs.Port.{stored-in, report-of, image-after}
 use Rattle.port.proofs.Images.{wrong-length, told-in, kept-in, untouched-in}
 use borrow.Author.Needs.{needs}
 use Rattle.port.proofs.ordizgum_call.Statement.{statement}

@@ -3,7 +3,7 @@ use Rattle.model.specs.Kernel.{judge}
 use Rattle.model.specs.Before.{view}
 use Rattle.table.specs.Orderly.{OrderlyTable}
 use Rattle.table.proofs.Stored.{sound-whole}
-use Rattle.refusals.proofs.ByNumber.{no-call, call-in-range}
+use Rattle.rules.proofs.ByNumber.{no-call, call-in-range}
 use borrow.Author.Needs.{needs}
 use Rattle.refusals.proofs.answer.Statement.{statement}
 use Rattle.refusals.proofs.answer.Tie as tie

@@ -9,7 +9,7 @@ use Rattle.model.specs.Ranges.{is-positive-16}
 use Rattle.model.specs.Calls.{answers, clear, unused-bcd}
 use Rattle.model.specs.Effects.{clear-effect}
 use Rattle.model.specs.Before.{view}
-use Rattle.refusals.proofs.InRange.{positive-fits}
+use Rattle.rules.proofs.InRange.{positive-fits}
 use Rattle.kernel.proofs.Facts.{whole, flags-named, not-due}
 use borrow.Author.Needs.{needs}
 use Rattle.kernel.proofs.flags.clear.Statement.{statement}

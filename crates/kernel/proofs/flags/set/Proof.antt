@@ -7,7 +7,7 @@ use Rattle.sequences.proofs.Tests.{left}
 use Rattle.model.specs.Ranges.{is-positive-16}
 use Rattle.model.specs.Calls.{answers, set, unused-bcd}
 use Rattle.model.specs.Effects.{set-effect}
-use Rattle.refusals.proofs.InRange.{positive-fits}
+use Rattle.rules.proofs.InRange.{positive-fits}
 use Rattle.kernel.proofs.Facts.{whole, flags-named, not-due}
 use borrow.Author.Needs.{needs}
 use Rattle.kernel.proofs.flags.set.Statement.{statement}

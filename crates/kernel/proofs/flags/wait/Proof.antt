@@ -22,7 +22,7 @@ use Rattle.model.specs.Before.{view}
 use Rattle.table.specs.Orderly.{Meets, Does}
 use Rattle.table.specs.Orderly.{Whole}
 use Rattle.table.proofs.Views.{does, then, same-word}
-use Rattle.refusals.proofs.InRange.{wait-fits}
+use Rattle.rules.proofs.InRange.{wait-fits}
 use Rattle.kernel.proofs.Facts.{whole, running-below, flags-named, not-due}
 use borrow.Author.Needs.{needs}
 use Rattle.kernel.proofs.flags.wait.Statement.{statement}

@@ -12,7 +12,7 @@ use Rattle.model.specs.Before.{view, thread-at}
 use Rattle.placed.proofs.Standing.{alter-placed}
 use Rattle.table.proofs.Rooms.{given-after}
 use Rattle.table.proofs.Views.{does, and-then, same-word}
-use Rattle.kernel.specs.Meeting.{wake-met}
+use Rattle.theorems.specs.Meeting.{wake-met}
 use borrow.Author.Needs.{needs}
 use Rattle.kernel.proofs.flags.wake_met.Statement.{statement}
 use Rattle.kernel.proofs.flags.wake_met.Tie as tie

@@ -12,7 +12,7 @@ use Rattle.model.specs.Ranges.{is-positive-16}
 use Rattle.model.specs.Calls.{answers, unused-cd, create-semaphore}
 use Rattle.model.specs.Effects.{create-semaphore-effect}
 use Rattle.model.specs.Before as layout
-use Rattle.refusals.proofs.InRange.{positive-fits}
+use Rattle.rules.proofs.InRange.{positive-fits}
 use Rattle.kernel.specs.Allowed.{Allowed}
 use Rattle.kernel.proofs.Facts.{whole, not-due}
 use borrow.Author.Needs.{needs}

@@ -2,7 +2,7 @@
 use mathlib.Core.Path.{_≡_, refl}
 use native.Mathlib.Omega.{arith}
 use Rattle.model.specs.Calls.{calls, numbered, start-timer, stop-timer}
-use Rattle.kernel.specs.Effect.{effect-of}
+use Rattle.theorems.specs.Effect.{effect-of}
 use Rattle.kernel.proofs.Numbered.{allowed, meets-effect}
 use Rattle.kernel.proofs.timers.effect.Statement.{statement}
 use Rattle.kernel.proofs.timers.effect.Tie as tie

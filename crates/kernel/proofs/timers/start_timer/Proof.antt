@@ -18,7 +18,7 @@ use Rattle.model.specs.Before as layout
 use Rattle.model.specs.Before.{view}
 use Rattle.table.proofs.Rewriting.{rewritten-timer}
 use Rattle.theorems.proofs.Running.{named}
-use Rattle.refusals.proofs.InRange.{positive-fits}
+use Rattle.rules.proofs.InRange.{positive-fits}
 use Rattle.kernel.specs.Allowed.{Allowed}
 use Rattle.kernel.proofs.Facts.{whole, not-due}
 use borrow.Author.Needs.{needs}

@@ -12,7 +12,7 @@ use Rattle.model.specs.Ranges.{is-positive-16, fits-32}
 use Rattle.model.specs.Calls.{answers}
 use Rattle.model.specs.Before.{view}
 use Rattle.table.specs.Objects.{flags-there}
-use Rattle.refusals.proofs.InRange.{wait-fits}
+use Rattle.rules.proofs.InRange.{wait-fits}
 use borrow.Author.Needs.{needs}
 use Rattle.refusals.proofs.flags.wait.Statement.{statement}
 use Rattle.refusals.proofs.flags.wait.Tie as tie

@@ -3,7 +3,7 @@ use native.Mathlib.Omega.{arith}
 use Rattle.model.specs.Calls.{calls, numbered}
 use Rattle.model.specs.Kernel.{judge}
 use Rattle.model.specs.Before.{view}
-use Rattle.refusals.proofs.ByNumber.{by-number}
+use Rattle.rules.proofs.ByNumber.{by-number}
 use borrow.Author.Needs.{needs}
 use Rattle.refusals.proofs.mutexes.answer.Statement.{statement}
 use Rattle.refusals.proofs.mutexes.answer.Tie as tie

@@ -8,7 +8,7 @@ use Rattle.sequences.proofs.Tests.{left}
 use Rattle.model.specs.Calls.{answers}
 use Rattle.model.specs.Before.{view}
 use Rattle.table.specs.Objects.{semaphore-there}
-use Rattle.refusals.proofs.InRange.{there-below}
+use Rattle.rules.proofs.InRange.{there-below}
 use borrow.Author.Needs.{needs}
 use Rattle.refusals.proofs.semaphores.post.Statement.{statement}
 use Rattle.refusals.proofs.semaphores.post.Tie as tie

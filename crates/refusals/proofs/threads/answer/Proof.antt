@@ -6,7 +6,7 @@ use Rattle.model.specs.Calls.{calls, numbered}
 use Rattle.model.specs.Kernel.{judge}
 use Rattle.model.specs.Before.{view}
 use Rattle.table.proofs.Stored.{sound-whole}
-use Rattle.refusals.proofs.ByNumber.{by-number}
+use Rattle.rules.proofs.ByNumber.{by-number}
 use borrow.Author.Needs.{needs}
 use Rattle.refusals.proofs.threads.answer.Statement.{statement}
 use Rattle.refusals.proofs.threads.answer.Tie as tie

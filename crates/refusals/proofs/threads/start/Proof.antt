@@ -6,7 +6,7 @@ use borrow.Author.Tests.{not-true, not-false}
 use Rattle.model.specs.Calls.{answers}
 use Rattle.model.specs.Before.{view}
 use Rattle.table.specs.Objects.{thread-there}
-use Rattle.refusals.proofs.InRange.{there-below}
+use Rattle.rules.proofs.InRange.{there-below}
 use borrow.Author.Needs.{needs}
 use Rattle.refusals.proofs.threads.start.Statement.{statement}
 use Rattle.refusals.proofs.threads.start.Tie as tie

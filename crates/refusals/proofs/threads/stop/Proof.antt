@@ -7,7 +7,7 @@ use Rattle.model.specs.Calls.{answers}
 use Rattle.model.specs.Before.{view}
 use Rattle.table.specs.Objects.{thread-there}
 use Rattle.table.proofs.Stored.{sound-given}
-use Rattle.refusals.proofs.InRange.{there-below}
+use Rattle.rules.proofs.InRange.{there-below}
 use borrow.Author.Needs.{needs}
 use Rattle.refusals.proofs.threads.stop.Statement.{statement}
 use Rattle.refusals.proofs.threads.stop.Tie as tie
