@@ -1,16 +1,20 @@
 -- Fields and whole records read and written in place are the model's words. Told of any part that is many records of one kind, each of which
 -- is an instance; and of the head. Then changes one after another.
 use mathlib.Core.Path.{_≡_, refl, sym, ap, _∙_}
+use mathlib.Core.Bool.{_&&_}
 use mathlib.Core.List.{List}
-use Prim.Native.Nat.{ℕ, _+_, _<_, _≤_}
+use Prim.Native.Nat.{ℕ, _+_, _*_, _%_, _<_, _≤_}
+use native.Mathlib.Nat.{add-assoc}
 use native.Mathlib.Omega.{arith}
-use lib.Dec.{lit≤}
+use borrow.Author.Tests.{eqb-true, eq-eqb}
+use lib.Dec.{eqb, lit≤}
 use lib.ListN.{length, getD, set}
 use lib.Seq.{sets}
 use Rattle.sequences.specs.Lists.{alter}
-use Rattle.sequences.specs.Bytes.{Bytes, put}
+use Rattle.sequences.specs.Bytes.{Bytes, two-at, four-at, put}
 use Rattle.sequences.specs.Records.{total, offset, reads, Place, end, start, spot, width, all, bytes-of, Outside}
 use Rattle.sequences.proofs.Places.{alter-twice}
+use Rattle.sequences.proofs.Tests.{both, left, right, same-truth}
 use Rattle.sequences.proofs.Fields.{behind, fetched, fetched-from, fetched-whole, read, written, written-outside}
 use Rattle.sequences.proofs.Fields.{reads-put, put-outside, widen, field-fits}
 use Rattle.sequences.proofs.RecordsLaid.{Faithful, stored, stored-outside}
@@ -43,6 +47,30 @@ module _ {s r : List ℕ} {f : State → State} (a : Alters s f r) where
 -- two results that fit one statement are the same bytes
 pub alters-once : (s r t : List ℕ) (f : State → State) → Alters s f r → Alters s f t → Bytes r → Bytes t → r ≡ t
 alters-once s r t f a b o p = same-bytes r t o p (a .size) (b .size) (a .view ∙ sym (b .view)) (a .links ∙ sym (b .links))
+
+-- ---- fields that stand side by side
+
+-- two fields of two bytes, from place f of a record at k on
+pub two-and-two : (k f : ℕ) (s : List ℕ) {x y : ℕ} → two-at (k + f) s ≡ x → two-at (k + (f + 2)) s ≡ y → four-at (k + f) s ≡ x + 65536 * y
+two-and-two k f s {y = y} p q =
+    let two : getD s (k + f + 2) 0 + 256 * getD s (k + f + 3) 0 ≡ y =
+    rw (add-assoc k f 2, add-assoc k f 3, ← (add-assoc f 2 1), ← (add-assoc k (f + 2) 1)) q in
+    omega (arith, p, two)
+
+-- three fields of a byte, of which a fourth byte is taken off
+pub first-three : (k : ℕ) (s : List ℕ) → ((j : ℕ) → getD s j 0 < 256) → {x y z : ℕ} → getD s k 0 ≡ x → getD s (k + 1) 0 ≡ y → getD s (k + 2) 0 ≡ z
+    → four-at k s % 16777216 ≡ x + 256 * y + 65536 * z
+first-three k s o p q r = omega (arith, p, q, r, o k, o (k + 1), o (k + 2))
+
+-- several fields are 0 where their sum is, and the sum where the bytes' is
+pub both-zero : (a b : ℕ) → eqb a 0 && eqb b 0 ≡ eqb (a + b) 0
+both-zero a b =
+    same-truth (eqb a 0 && eqb b 0) (eqb (a + b) 0)
+    (λ h. eq-eqb (a + b) 0 (omega (arith, eqb-true a 0 (left (eqb a 0) (eqb b 0) h), eqb-true b 0 (right (eqb a 0) (eqb b 0) h))))
+    (λ h. let e = eqb-true (a + b) 0 h in both (eq-eqb a 0 (omega arith)) (eq-eqb b 0 (omega arith)))
+
+pub zero-alike : (a b : ℕ) → (a ≡ 0 → b ≡ 0) → (b ≡ 0 → a ≡ 0) → eqb a 0 ≡ eqb b 0
+zero-alike a b f g = same-truth (eqb a 0) (eqb b 0) (λ h. eq-eqb b 0 (f (eqb-true a 0 h))) (λ h. eq-eqb a 0 (g (eqb-true b 0 h)))
 
 -- ---- the head
 

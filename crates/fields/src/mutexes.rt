@@ -3,7 +3,7 @@ ghost use mathlib.Core.Path.{_≡_};
 ghost use Rattle.sequences.specs.Records.{bytes-of};
 ghost use Rattle.model.specs.Parts.{mutex, alter-mutex, with-owner};
 ghost use Rattle.model.specs.Layout.{view, mutexes-at};
-ghost use Rattle.fields.specs.Fields.{Named, Alters};
+ghost use Rattle.fields.specs.Fields.{Named, Alters, ownership};
 use crate::places::MUTEX_LENGTH;
 use crate::places::MUTEXES;
 use model::tables::Mutex;
@@ -43,6 +43,28 @@ pub fn created(image: &[u8], o: usize) -> u8
     ensures { λ r. ⌜ r ≡ mutex o (view (now (image .entry))) .created ⌝ }
 {
     image[MUTEXES + MUTEX_LENGTH * o]
+}
+
+pub fn owner(image: &[u8], o: usize) -> u8
+    requires { ⌜ Named 4 (now image) o ⌝ }
+    ensures { λ r. ⌜ r ≡ mutex o (view (now (image .entry))) .owner ⌝ }
+{
+    image[MUTEXES + MUTEX_LENGTH * o + OWNER]
+}
+
+pub fn depth(image: &[u8], o: usize) -> u8
+    requires { ⌜ Named 4 (now image) o ⌝ }
+    ensures { λ r. ⌜ r ≡ mutex o (view (now (image .entry))) .depth ⌝ }
+{
+    image[MUTEXES + MUTEX_LENGTH * o + DEPTH]
+}
+
+// All three fields as one number, as they stand side by side. A byte behind them is read with them, so that it is one reading.
+pub fn ownership(image: &[u8], o: usize) -> u32
+    requires { ⌜ Named 4 (now image) o ⌝ }
+    ensures { λ r. ⌜ r ≡ ownership (mutex o (view (now (image .entry)))) ⌝ }
+{
+    packed::u32_at(image, MUTEXES + MUTEX_LENGTH * o) % 16777216
 }
 
 // Who owns it, and how deep; 0 and 0 for nobody.

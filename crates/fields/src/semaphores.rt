@@ -3,7 +3,7 @@ ghost use mathlib.Core.Path.{_≡_};
 ghost use Rattle.sequences.specs.Records.{bytes-of};
 ghost use Rattle.model.specs.Parts.{semaphore, alter-semaphore, with-count};
 ghost use Rattle.model.specs.Layout.{view, semaphores-at};
-ghost use Rattle.fields.specs.Fields.{Named, Alters};
+ghost use Rattle.fields.specs.Fields.{Named, Alters, levels, zero-semaphore};
 use crate::places::SEMAPHORE_LENGTH;
 use crate::places::SEMAPHORES;
 use model::tables::Semaphore;
@@ -70,4 +70,21 @@ pub fn maximum(image: &[u8], o: usize) -> u16
     ensures { λ r. ⌜ r ≡ semaphore o (view (now (image .entry))) .maximum ⌝ }
 {
     packed::u16_at(image, SEMAPHORES + SEMAPHORE_LENGTH * o + MAXIMUM)
+}
+
+// Count and maximum as one number, as they stand side by side.
+pub fn levels(image: &[u8], o: usize) -> u32
+    requires { ⌜ Named 8 (now image) o ⌝ }
+    ensures { λ r. ⌜ r ≡ levels (semaphore o (view (now (image .entry)))) ⌝ }
+{
+    packed::u32_at(image, SEMAPHORES + SEMAPHORE_LENGTH * o + COUNT)
+}
+
+// All five bytes 0, four of them read at once.
+pub fn is_blank(image: &[u8], o: usize) -> bool
+    requires { ⌜ Named 8 (now image) o ⌝ }
+    ensures { λ r. ⌜ r ≡ zero-semaphore (semaphore o (view (now (image .entry)))) ⌝ }
+{
+    let k = SEMAPHORES + SEMAPHORE_LENGTH * o;
+    (packed::u32_at(image, k) == 0) & (image[k + (MAXIMUM + 1)] == 0)
 }

@@ -1,9 +1,10 @@
 // Threads in the image: a whole record, or the field that is asked for (01, The table).
 ghost use mathlib.Core.Path.{_≡_};
+ghost use Prim.Native.Nat.{_<_};
 ghost use Rattle.sequences.specs.Records.{bytes-of};
 ghost use Rattle.model.specs.Parts.{thread, alter-thread, with-base, with-current, with-quantum, with-left, with-wait, with-limit, with-result, with-delivered};
 ghost use Rattle.model.specs.Layout.{view, threads-at};
-ghost use Rattle.fields.specs.Fields.{Named, Alters, ending};
+ghost use Rattle.fields.specs.Fields.{Named, Alters, standing, quanta, ending};
 use crate::places::THREAD_LENGTH;
 use crate::places::THREADS;
 use model::tables::Thread;
@@ -200,6 +201,22 @@ fn set_mode(image: &mut [u8], i: usize, x: u8)
     ensures { λ _. ⌜ Alters (now (image .entry)) (alter-thread i (λ t. with-wait (t .limit) (t .result) (t .mask) x t)) (now (image .exit)) ⌝ }
 {
     image[THREADS + THREAD_LENGTH * i + MODE] = x;
+}
+
+// Created, base and current as one number, as they stand side by side. A byte of the quantum is read with them, so that it is one reading.
+pub fn standing(image: &[u8], i: usize) -> u32
+    requires { ⌜ Named 16 (now image) i ⌝ }
+    ensures { λ r. ⌜ (r ≡ standing (thread i (view (now (image .entry))))) × (r < 16777216) ⌝ }
+{
+    packed::u32_at(image, THREADS + THREAD_LENGTH * i) % 16777216
+}
+
+// Quantum and left as one number, as they stand side by side.
+pub fn quanta(image: &[u8], i: usize) -> u32
+    requires { ⌜ Named 16 (now image) i ⌝ }
+    ensures { λ r. ⌜ r ≡ quanta (thread i (view (now (image .entry)))) ⌝ }
+{
+    packed::u32_at(image, THREADS + THREAD_LENGTH * i + QUANTUM)
 }
 
 // Result, mask and mode as one number, as they stand side by side.

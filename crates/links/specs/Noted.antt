@@ -1,8 +1,9 @@
 -- Links that nothing is known of, followed list by list: what is noted of each id on the way, and what is known behind the last list.
 use mathlib.Core.Path.{_≡_}
-use mathlib.Core.Bool.{Bool, true, false, cond}
+use mathlib.Core.Bool.{Bool, true, false, cond, _&&_, _||_}
 use mathlib.Core.List.{List, [], _++_}
 use Prim.Native.Nat.{ℕ, suc, _+_, _-_, _<_, _≤_}
+use lib.Dec.{eqb, leb}
 use lib.ListN.{length, getD, take, drop}
 use Rattle.sequences.specs.Lists.{among, among-any, first-at, reversed, snoc}
 use Rattle.sequences.specs.Links.{along, lists-in, leads, head-link, last-cell, Chain, Once, Orderly}
@@ -15,6 +16,10 @@ mark x ls = cond (among-any x ls) (suc (first-at (among x) ls)) 0
 pub record Marked (n : ℕ) (ls : List (List ℕ)) (marks : List ℕ) : Type 0 where
   pub size : length marks ≡ n
   pub at : (x : ℕ) → x < n → getD marks x 0 ≡ mark x ls
+
+-- to nobody, or to an id that isn't noted yet
+unfoldable pub leads-anew : ℕ → List ℕ → ℕ → Bool
+leads-anew n marks link = eqb link 0 || (leb link n && eqb (getD marks (link - 1) 0) 0)
 
 -- the first j lists have been followed: nobody stands on them twice, they end, and they read the same from behind
 pub record Through (n m j : ℕ) (s marks : List ℕ) : Type 0 where

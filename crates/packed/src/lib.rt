@@ -1,6 +1,6 @@
 // Numbers in bytes, low byte first, and bytes copied from one slice to another: what image and records are read and written by.
 ghost use mathlib.Core.Path.{_≡_};
-ghost use Prim.Native.Nat.{_+_, _<_, _≤_};
+ghost use Prim.Native.Nat.{_+_, _*_, _<_, _≤_};
 ghost use lib.ListN.{length};
 ghost use lib.Seq.{sets};
 ghost use Rattle.sequences.specs.Bytes.{two-at, four-at, put};
@@ -17,6 +17,12 @@ pub fn wide32(b: u8) -> u32
     b as u32
 }
 
+fn wide64(n: u32) -> u64
+    ensures { λ r. ⌜ (r ≡ n) × (r < 4294967296) ⌝ }
+{
+    n as u64
+}
+
 pub fn u16_at(s: &[u8], k: usize) -> u16
     requires { ⌜ k + 1 < length (now s) ⌝ }
     ensures { λ r. ⌜ r ≡ two-at k (now (s .entry)) ⌝ }
@@ -29,6 +35,13 @@ pub fn u32_at(s: &[u8], k: usize) -> u32
     ensures { λ r. ⌜ r ≡ four-at k (now (s .entry)) ⌝ }
 {
     wide32(s[k]) + 256 * wide32(s[k + 1]) + 65536 * wide32(s[k + 2]) + 16777216 * wide32(s[k + 3])
+}
+
+pub fn u64_at(s: &[u8], k: usize) -> u64
+    requires { ⌜ k + 7 < length (now s) ⌝ }
+    ensures { λ r. ⌜ r ≡ four-at k (now (s .entry)) + 4294967296 * four-at (k + 4) (now (s .entry)) ⌝ }
+{
+    wide64(u32_at(s, k)) + 4294967296 * wide64(u32_at(s, k + 4))
 }
 
 // All of `src` into `dst`, which is as long.

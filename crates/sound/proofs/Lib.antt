@@ -1,4 +1,5 @@
 pub mod Endings
+pub mod OneNumber
 pub mod Marks
 pub mod Places
 pub mod Falling

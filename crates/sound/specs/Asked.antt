@@ -117,12 +117,12 @@ mutex-asked o x waited mark =
 unfoldable pub flags-asked : Flags → Bool → Bool
 flags-asked x waited = cond (eqb (x .created) 0) (eqb (x .word) 0 && not waited) (eqb (x .created) 1)
 
+-- whether it repeats, and its action
+abbrev pub action-asked : Timer → State → Bool
+action-asked t s = is-bit (t .repeat) && (action-in-range (t .kind) (t .object) (t .mask) && names-object (t .kind) (t .object) s)
+
 unfoldable pub timer-asked : Timer → State → Bool
-timer-asked t s =
-    cond (eqb (t .period) 0)
-    (zero-timer t)
-    (leb (t .left) (t .period)
-    && (is-bit (t .repeat) && (action-in-range (t .kind) (t .object) (t .mask) && names-object (t .kind) (t .object) s)))
+timer-asked t s = cond (eqb (t .period) 0) (zero-timer t) (leb (t .left) (t .period) && action-asked t s)
 
 unfoldable pub semaphores-asked : State → Bool
 semaphores-asked s = each-semaphore (λ o. semaphore-asked (semaphore o s) (waited-for (semaphore-list o) s))

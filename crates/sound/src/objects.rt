@@ -32,9 +32,19 @@ fn absent_fits(image: &[u8], o: usize) -> bool
     requires { ⌜ (semaphore o (view (now image)) .created ≡ 1 → ⊥) ⌝ }
     ensures { λ r. ⌜ r ≡ semaphore-asked (semaphore o (view (now (image .entry)))) (waited-for (semaphore-list o) (view (now (image .entry)))) ⌝ }
 {
-    let x = semaphores::semaphore(image, o);
     let waited = standing::waited_for(image, SEMAPHORE_LIST + o);
-    (x.created == 0) & ((x.count == 0) & ((x.maximum == 0) & !waited))
+    semaphores::is_blank(image, o) & !waited
+}
+
+// One that is there with something in it: nobody waits.
+fn filled_fits(image: &[u8], o: usize) -> bool
+    requires { ⌜ Named 8 (now image) o ⌝ }
+    requires { ⌜ (semaphore o (view (now image)) .created ≡ 1) × (semaphore o (view (now image)) .count ≡ 0 → ⊥) ⌝ }
+    ensures { λ r. ⌜ r ≡ semaphore-asked (semaphore o (view (now (image .entry)))) (waited-for (semaphore-list o) (view (now (image .entry)))) ⌝ }
+{
+    let levels = semaphores::levels(image, o);
+    let waited = standing::waited_for(image, SEMAPHORE_LIST + o);
+    (levels % 65536 <= levels / 65536) & !waited
 }
 
 fn semaphore_fits(image: &[u8], o: usize) -> bool
@@ -44,12 +54,10 @@ fn semaphore_fits(image: &[u8], o: usize) -> bool
     if semaphores::created(image, o) != 1 {
         return absent_fits(image, o);
     }
-    let count = semaphores::count(image, o);
-    let maximum = semaphores::maximum(image, o);
-    if count == 0 {
-        return 0 < maximum;
+    if semaphores::count(image, o) == 0 {
+        return 0 < semaphores::maximum(image, o);
     }
-    (count <= maximum) & !standing::waited_for(image, SEMAPHORE_LIST + o)
+    filled_fits(image, o)
 }
 
 fn semaphores_fit(image: &[u8]) -> bool
@@ -81,15 +89,18 @@ fn owner_fits(marks: &[u8], o: usize, owner: u8) -> bool
     (mark != 0) & (mark != ((PRIORITY_COUNT + MUTEX_LIST + o + 1) as u8))
 }
 
+// Without an owner one number tells that all is 0, but for whether it is there.
 fn mutex_fits(image: &[u8], marks: &[u8], o: usize) -> bool
     requires { ⌜ Named 4 (now image) o ⌝ }
     requires { ⌜ length (now marks) ≡ 16 ⌝ }
     ensures { λ r. ⌜ r ≡ mutex-asked o (mutex o (view (now (image .entry)))) (waited-for (mutex-list o) (view (now (image .entry)))) (getD (now (marks .entry)) (mutex o (view (now (image .entry))) .owner) 0) ⌝ }
 {
+    if mutexes::ownership(image, o) <= 1 {
+        return !standing::waited_for(image, MUTEX_LIST + o);
+    }
     let x = mutexes::mutex(image, o);
     if x.depth == 0 {
-        let waited = standing::waited_for(image, MUTEX_LIST + o);
-        return (x.created <= 1) & ((x.owner == 0) & !waited);
+        return false;
     }
     if x.created != 1 {
         return false;

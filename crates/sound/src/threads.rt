@@ -1,6 +1,7 @@
 // The threads, each by the list that it was noted on (01, The table, the paragraph on soundness).
 ghost use mathlib.Core.Path.{_≡_};
-ghost use Prim.Native.Nat.{_<_, _≤_};
+ghost use mathlib.Core.Bool.{_&&_};
+ghost use Prim.Native.Nat.{_-_, _<_, _≤_};
 ghost use Rattle.model.specs.Parts.{thread, flag-object};
 ghost use Rattle.model.specs.Sound.{zero-thread};
 ghost use Rattle.model.specs.Layout.{view};
@@ -20,6 +21,13 @@ use model::modes::ALL_CLEAR;
 use model::tables::Thread;
 use rules::conditions;
 use words::owners;
+
+// Marks of lists that are no ready lists: of the stopped list, of the first wait list, and of the first wait list of a flag object.
+const STOPPED_MARK: usize = PRIORITY_COUNT + STOPPED_LIST + 1;
+
+const WAITS_MARK: usize = PRIORITY_COUNT + SEMAPHORE_LIST + 1;
+
+const FLAGS_MARK: usize = PRIORITY_COUNT + FLAGS_LIST + 1;
 
 // ---- on no list
 
@@ -73,7 +81,7 @@ fn quantum_fits(image: &[u8], i: usize) -> bool
     if (0 < left) & (left <= quantum) {
         return true;
     }
-    (left == 0) & (quantum == 0)
+    threads::quanta(image, i) == 0
 }
 
 // Ready or stopped: no limit, a result of 2 at most, and no mask or mode, which would make the number larger.
@@ -129,43 +137,44 @@ fn awaits(image: &[u8], i: usize, o: usize) -> bool
     !conditions::holds(mode, mask, flags::word(image, o))
 }
 
-fn waits_right(image: &[u8], i: usize, j: usize) -> bool
+fn waits_right(image: &[u8], i: usize, mark: usize) -> bool
     requires { ⌜ Named 16 (now image) i ⌝ }
-    requires { ⌜ (previous-link i (now image) ≤ 16) × (j < 18) ⌝ }
-    ensures { λ r. ⌜ r ≡ waits-right j i (now (image .entry)) ⌝ }
+    requires { ⌜ (previous-link i (now image) ≤ 16) × (9 ≤ mark) × (mark ≤ 26) ⌝ }
+    ensures { λ r. ⌜ r ≡ waits-right (mark - 9) i (now (image .entry)) ⌝ }
 {
     if !is_behind(image, i) {
         return false;
     }
-    if j < FLAGS_LIST {
+    if mark < FLAGS_MARK {
         return threads::ending(image, i) == 0;
     }
     if threads::result(image, i) != 0 {
         return false;
     }
-    awaits(image, i, j - FLAGS_LIST)
+    awaits(image, i, mark - FLAGS_MARK)
 }
 
 // ---- all of it
 
-fn rests_right(image: &[u8], i: usize, j: usize) -> bool
+fn rests_right(image: &[u8], i: usize, mark: usize) -> bool
     requires { ⌜ Named 16 (now image) i ⌝ }
-    requires { ⌜ (previous-link i (now image) ≤ 16) × (j < 18) ⌝ }
-    ensures { λ r. ⌜ r ≡ rests-right j i (now (image .entry)) ⌝ }
+    requires { ⌜ (previous-link i (now image) ≤ 16) × (9 ≤ mark) × (mark ≤ 26) ⌝ }
+    ensures { λ r. ⌜ r ≡ rests-right (mark - 9) i (now (image .entry)) ⌝ }
 {
-    if j == STOPPED_LIST {
+    if WAITS_MARK <= mark {
+        return waits_right(image, i, mark);
+    }
+    if mark == STOPPED_MARK {
         return is_idle(image, i);
     }
-    if j < SEMAPHORE_LIST {
-        return is_asleep(image, i);
-    }
-    waits_right(image, i, j)
+    is_asleep(image, i)
 }
 
-fn stands_right(image: &[u8], i: usize, j: usize) -> bool
+// On a list that is no ready list.
+fn stands_aside(image: &[u8], i: usize, mark: usize) -> bool
     requires { ⌜ Named 16 (now image) i ⌝ }
-    requires { ⌜ (previous-link i (now image) ≤ 16) × (j < 26) ⌝ }
-    ensures { λ r. ⌜ r ≡ stands-right j i (now (image .entry)) ⌝ }
+    requires { ⌜ (previous-link i (now image) ≤ 16) × (9 ≤ mark) × (mark ≤ 26) ⌝ }
+    ensures { λ r. ⌜ r ≡ stands-right (mark - 1) i (now (image .entry)) ⌝ }
 {
     if threads::created(image, i) != 1 {
         return false;
@@ -176,22 +185,55 @@ fn stands_right(image: &[u8], i: usize, j: usize) -> bool
     if !quantum_fits(image, i) {
         return false;
     }
-    if j < PRIORITY_COUNT {
-        return ((threads::current(image, i) as usize) == j) & is_idle(image, i);
-    }
-    rests_right(image, i, j - PRIORITY_COUNT)
+    rests_right(image, i, mark)
 }
 
-// By its mark.
+// What else is asked of who is ready.
+fn is_fresh(image: &[u8], i: usize) -> bool
+    requires { ⌜ Named 16 (now image) i ⌝ }
+    ensures { λ r. ⌜ r ≡ (quantum-fits (thread i (view (now (image .entry)))) && idle (thread i (view (now (image .entry))))) ⌝ }
+{
+    if !quantum_fits(image, i) {
+        return false;
+    }
+    is_idle(image, i)
+}
+
+// On a ready list, at its base or above it.
+fn stands_ready(image: &[u8], i: usize, p: u8) -> bool
+    requires { ⌜ Named 16 (now image) i ⌝ }
+    requires { ⌜ p < 8 ⌝ }
+    ensures { λ r. ⌜ r ≡ stands-right p i (now (image .entry)) ⌝ }
+{
+    if threads::created(image, i) != 1 {
+        return false;
+    }
+    if threads::current(image, i) != p {
+        return false;
+    }
+    if !priority_fits(image, i) {
+        return false;
+    }
+    is_fresh(image, i)
+}
+
+// By its mark. Of who is there, with base and current p, one number is 1 + 65792 p, and on ready list p the mark is p + 1: so one comparison tells of
+// most ready threads. With a mark of 0 it never holds.
 fn thread_fits(image: &[u8], i: usize, mark: u8) -> bool
     requires { ⌜ Named 16 (now image) i ⌝ }
     requires { ⌜ (0 < mark → previous-link i (now image) ≤ 16) × (mark ≤ 26) ⌝ }
     ensures { λ r. ⌜ r ≡ thread-asked mark i (now (image .entry)) ⌝ }
 {
+    if (PRIORITY_COUNT as u8) < mark {
+        return stands_aside(image, i, mark as usize);
+    }
+    if threads::standing(image, i) + 65791 == 65792 * (mark as u32) {
+        return is_fresh(image, i);
+    }
     if mark == 0 {
         return is_nothing(image, i);
     }
-    stands_right(image, i, (mark as usize) - 1)
+    stands_ready(image, i, mark - 1)
 }
 
 pub fn threads_fit(image: &[u8], marks: &[u8]) -> bool

@@ -11,12 +11,19 @@ use fields::places::THREAD_COUNT;
 use fields::threads;
 use model::tables::NOBODY;
 
-// The head of the highest ready list that isn't empty, or nobody, whatever the links are otherwise.
+// From this priority on the ready lists are looked at together.
+const UPPER_HALF: usize = 4;
+
+// The head of the highest ready list that isn't empty, or nobody, whatever the links are otherwise. The four highest lists are looked at together
+// first, and passed over where all are empty.
 pub fn choice(image: &[u8]) -> u8
     requires { ⌜ Sized (now image) ⌝ }
     ensures { λ r. ⌜ r ≡ choice (view (now (image .entry))) ⌝ }
 {
     let mut above: usize = PRIORITY_COUNT;
+    if packed::u32_at(image, FIRSTS + UPPER_HALF) == 0 {
+        above = UPPER_HALF;
+    }
     while 0 < above {
         let p = above - 1;
         let link = image[FIRSTS + p];

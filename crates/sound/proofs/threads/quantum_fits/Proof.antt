@@ -6,11 +6,15 @@ use native.Mathlib.Decide.{ℕ-discrete}
 use native.Mathlib.Omega.{arith}
 use borrow.Author.Needs.{needs}
 use borrow.Author.Tests.{lt-ltb, le-leb, ne-eqb}
+use denote.Ref.{now}
 use lib.Dec.{eqb, leb, ltb}
 use Rattle.sequences.proofs.Positive.{not-positive}
 use Rattle.sequences.proofs.Tests.{left, right}
 use Rattle.model.specs.declared.tables.Thread.{Thread}
+use Rattle.model.specs.Parts.{thread}
+use Rattle.model.specs.Layout.{view}
 use Rattle.sound.specs.Asked.{quantum-fits}
+use Rattle.sound.proofs.OneNumber.{no-quantum}
 use Rattle.sound.proofs.threads.quantum_fits.Statement.{statement}
 use Rattle.sound.proofs.threads.quantum_fits.Tie as tie
 
@@ -34,7 +38,12 @@ returns : tie.Need-returns
 returns c = within _ _ _ (c .before .before .quantum .ensures) (c .before .left .ensures) (c .if1 .taken)
 
 returns-2 : tie.Need-returns-2
-returns-2 c = beyond _ _ _ (c .before .before .quantum .ensures) (c .before .left .ensures) (c .if1 .left)
+returns-2 c =
+    let d = c .before in
+    let a = d .before .before .before .before .args in
+    let t = thread (a .i) (view (now (a .image))) in
+    rw (c .quanta .ensures, no-quantum t, ← (d .before .before .quantum .ensures), ← (d .before .left .ensures))
+    (beyond t _ _ (d .before .before .quantum .ensures) (d .before .left .ensures) (d .if1 .left))
 
 pub quantum-fits-spec : {M : Type 1} → statement M
-quantum-fits-spec = tie.close (tie.spec (λ c κs. search needs) (λ c κs. search needs) returns returns-2)
+quantum-fits-spec = tie.close (tie.spec (λ c κs. search needs) (λ c κs. search needs) returns (λ c κs. search needs) returns-2)

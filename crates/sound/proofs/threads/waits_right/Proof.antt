@@ -1,6 +1,8 @@
 -- Each return is the definition with the tests that led there.
 use mathlib.Core.Path.{_≡_, sym, _∙_}
 use mathlib.Core.Bool.{true, and-comm}
+use Prim.Native.Nat.{_-_}
+use native.Mathlib.Omega.{arith}
 use borrow.Author.Needs.{needs}
 use borrow.Author.Tests.{eq-eqb, ne-eqb, lt-ltb, le-ltb, not-true, not-false}
 use denote.Ref.{now}
@@ -28,7 +30,7 @@ unfolding waits-right
 returns-2 c =
     let d = c .before .before in
     let t = self (d .before .before .before) in
-    rw (behind d, lt-ltb (d .before .before .before .args .j) 14 (c .before .if2 .taken), c .ending .ensures)
+    rw (behind d, lt-ltb (d .before .before .before .args .mark - 9) 14 (omega (arith, c .before .if2 .taken)), c .ending .ensures)
     (ending-nothing t ∙ and-comm (unmasked t) (eqb (t .result) 0))
 
 returns-3 : tie.Need-returns-3
@@ -43,10 +45,12 @@ returns-4 c =
     let f = c .before in
     let d = f .before .before .before in
     let s = d .before .before .before in
+    let same : s .args .mark - 23 ≡ s .args .mark - 9 - 14 = omega arith in
     rw (
       behind d,
       eq-eqb (self s .result) 0 (sym (f .before .result .ensures) ∙ f .if3 .left),
-      le-ltb (s .args .j) 14 (f .before .before .if2 .left),
+      le-ltb (s .args .mark - 9) 14 (omega (arith, f .before .before .if2 .left)),
+      ← same,
     )
     (c .awaits .ensures)
 

@@ -1,8 +1,10 @@
 -- Each return is the definition with the tests that led there.
 use mathlib.Core.Path.{_≡_, sym, _∙_}
 use mathlib.Core.Bool.{true}
+use Prim.Native.Nat.{_-_}
+use native.Mathlib.Omega.{arith}
 use borrow.Author.Needs.{needs}
-use borrow.Author.Tests.{eq-eqb, ne-eqb, lt-ltb, le-ltb, not-true, not-false}
+use borrow.Author.Tests.{eq-eqb, ne-eqb, le-ltb, not-true, not-false}
 use denote.Ref.{now}
 use lib.Dec.{eqb}
 use Rattle.model.specs.declared.tables.Thread.{Thread}
@@ -10,8 +12,8 @@ use Rattle.model.specs.State.{State}
 use Rattle.model.specs.Parts.{thread}
 use Rattle.model.specs.Layout.{view}
 use Rattle.sound.specs.Asked.{priority-fits, quantum-fits, stands-right}
-use Rattle.sound.proofs.threads.stands_right.Statement.{statement}
-use Rattle.sound.proofs.threads.stands_right.Tie as tie
+use Rattle.sound.proofs.threads.stands_aside.Statement.{statement}
+use Rattle.sound.proofs.threads.stands_aside.Tie as tie
 
 module _ (s : tie.Start) where
   abbrev seen : State
@@ -48,28 +50,15 @@ returns-3 c =
 returns-4 : tie.Need-returns-4
 unfolding stands-right
 returns-4 c =
-    let g = c .before .before .before in
+    let g = c .before in
     let f = g .before .before in
     let d = f .before .before in
-    rw (
-      there d,
-      in-bounds f,
-      lasting g,
-      lt-ltb (d .before .before .before .args .j) 8 (c .before .before .if4 .taken),
-      c .before .current .ensures,
-      c .is-idle .ensures,
-    )
+    let s = d .before .before .before in
+    let same : s .args .mark - 9 ≡ s .args .mark - 1 - 8 = omega arith in
+    rw (there d, in-bounds f, lasting g, le-ltb (s .args .mark - 1) 8 (omega (arith, s .pre .1 .1)), ← same) (c .rests-right .ensures)
 
-returns-5 : tie.Need-returns-5
-unfolding stands-right
-returns-5 c =
-    let g = c .before .before in
-    let f = g .before .before in
-    let d = f .before .before in
-    rw (there d, in-bounds f, lasting g, le-ltb (d .before .before .before .args .j) 8 (c .before .if4 .left)) (c .rests-right .ensures)
-
-pub stands-right-spec : {M : Type 1} → statement M
-stands-right-spec =
+pub stands-aside-spec : {M : Type 1} → statement M
+stands-aside-spec =
     tie.close
     (tie.spec
     (λ c κs. search needs)
@@ -79,8 +68,4 @@ stands-right-spec =
     (λ c κs. search needs)
     returns-3
     (λ c κs. search needs)
-    (λ c. search needs)
-    (λ c κs. search needs)
-    returns-4
-    (λ c κs. search needs)
-    returns-5)
+    returns-4)
