@@ -6,7 +6,7 @@ use Prim.Native.Nat.{ℕ, zero, suc, _+_, _-_, _<_}
 use native.Mathlib.Omega.{arith}
 use borrow.Author.Tests.{ne-eqb, lt-ltb}
 use lib.Dec.{eqb, ltb}
-use lib.ListN.{length, getD, take}
+use lib.ListN.{length, getD, take, drop}
 use lib.Seq.{getD-take}
 use Rattle.sequences.specs.Lists.{head-or}
 use Rattle.sequences.specs.Links.{along, leads, head-link}
@@ -38,6 +38,14 @@ linked-long (x ∷ l) h = omega arith
 pub unlinked-empty : (l : List ℕ) → head-link l ≡ 0 → length l ≡ 0
 unlinked-empty [] h = refl
 unlinked-empty (x ∷ l) h = absurd (omega arith)
+
+pub none-first : (l : List ℕ) (link : ℕ) → link ≡ head-link l → link ≡ 0 → l ≡ []
+none-first [] link e none = refl
+none-first (x ∷ l) link e none = absurd (omega arith)
+
+pub one-first : (l : List ℕ) (link : ℕ) → link ≡ head-link l → 0 < link → l ≡ (link - 1) ∷ drop 1 l
+one-first [] link e some = absurd (omega arith)
+one-first (x ∷ l) link e some = let same : x ≡ link - 1 = omega arith in ap (λ (y : ℕ). y ∷ l) same
 
 -- ---- in an image
 

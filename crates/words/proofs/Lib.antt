@@ -1,5 +1,7 @@
 pub mod Does
 pub mod Lists
+pub mod Known
+pub mod Accepted
 pub mod Moved
 pub mod Ranked
 pub mod Retaking

@@ -1,14 +1,15 @@
 -- The lists that the links lead through are the ready lists and then all others, so the number of a thread's list among them tells where the
 -- thread stands.
 use mathlib.Core.Path.{_≡_, refl, sym, ap, _∙_}
-use mathlib.Core.Bool.{_&&_}
+use mathlib.Core.Bool.{false, _&&_}
 use mathlib.Core.List.{List}
 use Prim.Native.Nat.{ℕ, _+_, _<_, _≤_}
 use native.Mathlib.Omega.{arith}
-use borrow.Author.Tests.{lt-ltb, ltb-true, le-leb, leb-true}
+use borrow.Author.Tests.{lt-ltb, le-ltb, ltb-true, le-leb, leb-true}
 use lib.Dec.{leb, ltb, eqb}
 use lib.ListN.{length}
-use Rattle.sequences.specs.Lists.{count-all, first-at, among}
+use Rattle.sequences.specs.Lists.{count, count-all, first-at, among}
+use Rattle.sequences.proofs.Counts.{among-count, among-any-count, count-all-at}
 use Rattle.sequences.proofs.Searches.{first-behind}
 use Rattle.sequences.proofs.Parts.{list-told, list-before}
 use Rattle.sequences.proofs.Tests.{same-truth}
@@ -58,3 +59,15 @@ module _ {b : List ℕ} (w : Whole b) (i : ℕ) {k : ℕ} (e : k ≡ first-at (a
       same-truth (ltb k 26) (ltb j 18) (λ t. lt-ltb j 18 (omega (arith, ltb-true k 26 t))) (λ t. lt-ltb k 26 (omega (arith, ltb-true j 18 t)))
       in
       rw (least, most) (sym (waiting-list (w .placed) i j refl))
+
+-- ---- who is no thread stands nowhere
+
+module _ {b : List ℕ} (w : Whole b) (i : ℕ) (past : thread-count ≤ i) where
+  pub none-ready : is-ready i (view b) ≡ false
+  none-ready = among-any-count i (view b .ready) ∙ le-ltb 0 (count-all i (view b .ready)) (omega (arith, w .placed .known i past))
+
+  pub none-stopped : is-stopped i (view b) ≡ false
+  none-stopped =
+      let l = list stopped-list (view b) in
+      among-count i l
+      ∙ le-ltb 0 (count i l) (omega (arith, w .placed .known i past, count-all-at i (view b .waits) stopped-list))

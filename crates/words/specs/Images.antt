@@ -1,14 +1,17 @@
 -- What a word asks of a lent image and hands back: links in order, threads that stand as they must, and a view that is changed by the model's
 -- word.
 use mathlib.Core.Path.{_≡_}
-use mathlib.Core.List.{List}
+use mathlib.Core.Bool.{true}
+use mathlib.Core.List.{List, []}
 use Prim.Native.Nat.{ℕ, _+_, _<_}
+use lib.ListN.{getD}
+use Rattle.sequences.specs.Lists.{count}
 use Rattle.sequences.specs.Links.{Orderly}
 use Rattle.links.specs.Walks.{Behind}
 use Rattle.model.specs.State.{State, thread-count, priority-count, list-count}
 use Rattle.model.specs.Parts.{list}
-use Rattle.model.specs.Words.{rank}
-use Rattle.model.specs.Layout.{view, links-part, linked-lists}
+use Rattle.model.specs.Words.{is-ready, rank}
+use Rattle.model.specs.Layout.{view, links-part, linked-lists, lists-of}
 use Rattle.placed.specs.Placed.{Placed, standing}
 use Rattle.fields.specs.Fields.{Sized}
 
@@ -27,6 +30,17 @@ pub record Does (b : List ℕ) (f : State → State) (r : List ℕ) : Type 0 whe
 pub record Given (b : List ℕ) (i : ℕ) : Type 0 where
   pub whole : Whole b
   pub thread : i < thread-count
+
+-- and a list of the links on which it stands, the ready lists first
+pub record On (b : List ℕ) (l i : ℕ) : Type 0 where
+  pub given : Given b i
+  pub list : l < linked-lists
+  pub on : 0 < count i (getD (lists-of b) l [])
+
+-- and it is ready
+pub record Ready (b : List ℕ) (i : ℕ) : Type 0 where
+  pub given : Given b i
+  pub ready : is-ready i (view b) ≡ true
 
 -- a thread that stands on no list
 pub record Off (b : List ℕ) (i : ℕ) : Type 0 where

@@ -7,3 +7,6 @@ pub mod owners;
 pub mod priorities;
 pub mod standing;
 pub mod waking;
+
+pub use moving::enter_tail;
+pub use moving::leave;

@@ -4,7 +4,7 @@ ghost use Prim.Native.Nat.{_<_};
 ghost use Rattle.sequences.specs.Lists.{first-at, among};
 ghost use Rattle.model.specs.Words.{leave, enter-tail, enter-ready, enter-by-priority};
 ghost use Rattle.model.specs.Layout.{lists-of};
-ghost use Rattle.words.specs.Images.{Given, Off, OffFor, Spotted, Does};
+ghost use Rattle.words.specs.Images.{Given, On, Off, OffFor, Spotted, Does};
 use fields::places::CURRENTS;
 use fields::places::IMAGE_LENGTH;
 use fields::places::LINKED_LISTS;
@@ -26,14 +26,16 @@ pub fn list_of(image: &[u8], i: usize) -> usize
     walking::list_of(&image[LINKS..IMAGE_LENGTH], THREAD_COUNT, LINKED_LISTS, i)
 }
 
-pub fn leave(image: &mut [u8], i: usize)
-    requires { ⌜ Given (now image) i ⌝ }
+// Off list l, on which it stands, so that nothing is searched for.
+pub fn leave(image: &mut [u8], l: usize, i: usize)
+    requires { ⌜ On (now image) l i ⌝ }
     ensures { λ _. ⌜ Does (now (image .entry)) (leave i) (now (image .exit)) ⌝ }
 {
-    leaving::leave(
+    leaving::leave_list(
         &mut image[LINKS..IMAGE_LENGTH],
         THREAD_COUNT,
         LINKED_LISTS,
+        l,
         i,
     );
 }

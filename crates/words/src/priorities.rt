@@ -18,13 +18,13 @@ fn retake(image: &mut [u8], i: usize, p: u8)
 {
     let j = moving::list_of(image, i);
     if j < PRIORITY_COUNT {
-        moving::leave(image, i);
+        moving::leave(image, j, i);
         threads::set_current(image, i, p);
         moving::enter_ready(image, i);
         return;
     }
     if (PRIORITY_COUNT + SEMAPHORE_LIST <= j) & (j < LINKED_LISTS) {
-        moving::leave(image, i);
+        moving::leave(image, j, i);
         threads::set_current(image, i, p);
         moving::enter_by_priority(image, j - PRIORITY_COUNT, i);
         return;

@@ -5,7 +5,7 @@ use Rattle.words.proofs.moving.leave.Statement.{statement}
 use Rattle.words.proofs.moving.leave.Tie as tie
 
 returns : tie.Need-returns
-returns c = left (c .before .before .before .before .before .pre) (c .before .before .leave .ensures)
+returns c = left (c .before .before .before .before .before .pre .given) (c .before .before .leave-list .ensures)
 
 pub leave-spec : {M : Type 1} → statement M
 leave-spec =

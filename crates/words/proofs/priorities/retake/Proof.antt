@@ -3,10 +3,25 @@ use native.Mathlib.Omega.{arith}
 use borrow.Author.Tests.{ltb-true}
 use lib.Dec.{leb, ltb}
 use Rattle.sequences.proofs.Tests.{right}
+use Rattle.words.proofs.Known.{told-on}
 use Rattle.words.proofs.Retaking.{retaken-off, retaken-ready, retaken-waiting, retaken-still}
 use borrow.Author.Needs.{needs}
 use Rattle.words.proofs.priorities.retake.Statement.{statement}
 use Rattle.words.proofs.priorities.retake.Tie as tie
+
+leave-requires : tie.Need-leave-requires
+leave-requires c κs =
+    let t = c .before in
+    let s = t .before .before .before .before in
+    told-on (s .pre .0) (t .before .list-of .ensures) (omega (arith, t .if1 .taken))
+
+leave-requires-2 : tie.Need-leave-requires-2
+leave-requires-2 c κs =
+    let t = c .before in
+    let e = t .before in
+    let j = e .before .list-of .result in
+    let s = e .before .before .before .before in
+    told-on (s .pre .0) (e .before .list-of .ensures) (omega (arith, ltb-true j 26 (right (leb 10 j) (ltb j 26) (t .if2 .taken))))
 
 enter-ready-requires : tie.Need-enter-ready-requires
 enter-ready-requires c κs =
@@ -61,13 +76,13 @@ retake-spec =
     tie.close
     (tie.spec
     (λ c κs. search needs)
-    (λ c κs. search needs)
+    leave-requires
     (λ c κs. search needs)
     enter-ready-requires
     (λ c. search needs)
     returns
     (λ c. search needs)
-    (λ c κs. search needs)
+    leave-requires-2
     (λ c κs. search needs)
     enter-by-priority-requires
     (λ c. search needs)

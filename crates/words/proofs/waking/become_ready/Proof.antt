@@ -6,7 +6,7 @@ use Rattle.words.proofs.waking.become_ready.Statement.{statement}
 use Rattle.words.proofs.waking.become_ready.Tie as tie
 
 enter-ready-requires : tie.Need-enter-ready-requires
-enter-ready-requires c κs = left-off (c .before .before .before .before .before .before .pre) (c .before .before .before .leave .ensures)
+enter-ready-requires c κs = left-off (c .before .before .before .before .before .before .pre .given) (c .before .before .before .leave .ensures)
 
 returns : tie.Need-returns
 unfolding become-ready

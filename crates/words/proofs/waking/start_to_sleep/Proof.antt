@@ -9,7 +9,7 @@ use Rattle.words.proofs.waking.start_to_sleep.Tie as tie
 enter-tail-requires : tie.Need-enter-tail-requires
 enter-tail-requires c κs =
     let s = c .before .before .before .before .before .before in
-    record { off = suspended-off (s .args .span) 0 0 (s .pre) (c .before .before .before .suspend .ensures); list = omega arith }
+    record { off = suspended-off (s .args .span) 0 0 (s .pre .given) (c .before .before .before .suspend .ensures); list = omega arith }
 
 returns : tie.Need-returns
 unfolding start-to-sleep

@@ -9,7 +9,7 @@ enter-by-priority-requires : tie.Need-enter-by-priority-requires
 enter-by-priority-requires c κs =
     let s = c .before .before .before .before .before .before in
     let a = s .args in
-    record { off = suspended-off (a .limit) (a .mask) (a .mode) (s .pre .0) (c .before .before .before .suspend .ensures); list = s .pre .1 }
+    record { off = suspended-off (a .limit) (a .mask) (a .mode) (s .pre .0 .given) (c .before .before .before .suspend .ensures); list = s .pre .1 }
 
 returns : tie.Need-returns
 unfolding start-to-wait
