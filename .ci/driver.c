@@ -33,6 +33,16 @@ static uint32_t look(uint8_t *room, const uint8_t *image, size_t length, uint32_
     return unsound;
 }
 
+/* A refusal writes nothing, not even the same bytes: it is asked for once more on an image that can't be written to. */
+static void refused_again(uint8_t *room, uint8_t *image, size_t length, const uint32_t asked[REQUEST], uint32_t *report) {
+    uint32_t before[ORDIZGUM_REPORT_LENGTH];
+    memcpy(before, report, sizeof before);
+    if (mprotect(room, LONGEST, PROT_READ) != 0) stop("write protection");
+    ordizgum_call(image, length, asked[0], asked[1], asked[2], asked[3], asked[4], asked[5], report);
+    if (mprotect(room, LONGEST, PROT_READ | PROT_WRITE) != 0) stop("write protection");
+    if (memcmp(before, report, sizeof before) != 0) differs("a refusal isn't told the same way twice");
+}
+
 static void one_case(uint8_t *room, size_t length, uint32_t *report) {
     uint8_t *image = against_a_page(room, length, number_of_case);
     uint8_t request[REQUEST * NUMBER];
@@ -40,6 +50,9 @@ static void one_case(uint8_t *room, size_t length, uint32_t *report) {
     read_part(image, length);
     read_part(request, sizeof request);
     for (int i = 0; i < REQUEST; i++) asked[i] = get32(request + NUMBER * i);
+#ifdef CALL_TO_COME
+    if (asked[0] == CALL_TO_COME) asked[0] = 0; /* .ci/compare leaves these out */
+#endif
     unsound = look(room, image, length, next);
     for (int i = 0; i < ORDIZGUM_REPORT_LENGTH; i++) report[i] = 0xA5A5A5A5u;
     answer = ordizgum_call(image, length, asked[0], asked[1], asked[2], asked[3], asked[4], asked[5], report);
@@ -47,6 +60,7 @@ static void one_case(uint8_t *room, size_t length, uint32_t *report) {
     if ((answer == ORDIZGUM_UNSOUND) != (unsound == 1)) differs("answer 1 isn't that of the soundness test");
     if (answer != ORDIZGUM_UNSOUND && (look(room, image, length, next) != 0 || next[0] != report[ORDIZGUM_REPORT_NEXT_WAKE_UP]))
         differs("the next wake-up reported isn't that of the image");
+    if (answer != ORDIZGUM_DONE && answer != ORDIZGUM_WAITS) refused_again(room, image, length, asked, report);
     put32(unsound);
     for (int i = 0; i < ORDIZGUM_REPORT_LENGTH; i++) put32(report[i]);
     if (fwrite(image, 1, length, stdout) != length) stop("standard output");

@@ -15,12 +15,6 @@
 
 #include "ordizgum.h"
 
-/* The soundness test that is measured: another than the side's own, if one is named. */
-#ifndef MEASURED_SOUND
-#define MEASURED_SOUND ordizgum_sound
-#endif
-uint32_t MEASURED_SOUND(const uint8_t *image, size_t length);
-
 static uint8_t image[ORDIZGUM_IMAGE_LENGTH];
 static uint32_t period = 1000, ticks;
 
@@ -140,7 +134,7 @@ static uint32_t once(const struct scenario *s) {
     case CALL:
         return ordizgum_call(image, sizeof image, s->call, s->id, ticks ? ticks : s->a, 0, 0, 0, report);
     case SOUND:
-        return MEASURED_SOUND(image, sizeof image);
+        return ordizgum_sound(image, sizeof image);
     case FRESH:
         return ordizgum_fresh(image, sizeof image);
     default:
