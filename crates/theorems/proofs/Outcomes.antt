@@ -13,7 +13,6 @@ use Rattle.model.specs.Answers.{number, accepted}
 use Rattle.model.specs.Calls.{numbered}
 use Rattle.model.specs.Time.{wakeups-in}
 use Rattle.model.specs.Kernel.{judge, answer, next-state, span, outcome, call}
-use Rattle.theorems.proofs.Accepting.{perform-sound}
 use Rattle.theorems.proofs.Replies.{judge-other}
 
 module _ (s : State) (q : Request) (is-sound : sound s ≡ true) {a : Answer} (given : a ≡ judge (numbered (q .call)) q s) where
@@ -33,8 +32,3 @@ module _ (s : State) (q : Request) (is-sound : sound s ≡ true) {a : Answer} (g
   whole-outcome same =
       ap (λ (x : Answer). outcome x (wakeups-in (span x q) s) (next-state x q s)) its-answer
       ∙ ap (outcome a (wakeups-in (span a q) s)) (sym same)
-
-  -- what comes of a sound table is one
-  pub still-sound : sound (next-state a q s) ≡ true
-  unfolding next-state
-  still-sound = perform-sound (accepted a) (numbered (q .call)) q s is-sound (ap accepted (sym given))
