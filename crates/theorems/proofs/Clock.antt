@@ -32,7 +32,7 @@ limit-clock : Timeless limit-step
 unfolding limit-step
 limit-clock c = steps-pass (with-clock c) limit-tick thread-count (λ i. limit-retimed (clock-at c) i (λ ts. refl))
 
-choose-clock : Timeless choose
+pub choose-clock : Timeless choose
 unfolding choose
 choose-clock c s = cond-passes (with-clock c) (scheduling-on s && not (eqb (choice s) (s .chosen))) refl refl refl
 

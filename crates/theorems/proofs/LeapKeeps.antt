@@ -45,16 +45,16 @@ limit-leap-timers gap i s = by-test (eqb (thread i s .limit) gap)
     by-test true = refl
     by-test false = refl
 
-limits-timers : (gap : ℕ) (s : State) → in-order thread-count (limit-leap gap) s .timers ≡ s .timers
+pub limits-timers : (gap : ℕ) (s : State) → in-order thread-count (limit-leap gap) s .timers ≡ s .timers
 limits-timers gap = in-order-keeps (limit-leap gap) (λ (s : State). s .timers) thread-count (λ i h. limit-leap-timers gap i)
 
 -- ---- the choice
 
-choose-counters : (s : State) → (times (choose s) ≡ times s) × (limits (choose s) ≡ limits s)
+pub choose-counters : (s : State) → (choose s .timers ≡ s .timers) × (limits (choose s) ≡ limits s)
 unfolding choose
 choose-counters s = by-test (scheduling-on s && not (eqb (choice s) (s .chosen)))
   where
-    by-test : (b : Bool) → (times (cond b (with-chosen (choice s) (alter-thread (choice s) refilled s)) s) ≡ times s)
+    by-test : (b : Bool) → (cond b (with-chosen (choice s) (alter-thread (choice s) refilled s)) s .timers ≡ s .timers)
         × (limits (cond b (with-chosen (choice s) (alter-thread (choice s) refilled s)) s) ≡ limits s)
     by-test true = (refl, alter-kept (λ (t : Thread). t .limit) refilled (λ t. refl) (choice s) (s .threads))
     by-test false = (refl, refl)
@@ -70,5 +70,5 @@ module _ (gap : ℕ) (s : State) where
   unfolding next
   next-walked =
       let counters = choose-counters after in
-      let same : times s ≡ times (choose after) = ap (map (λ (t : Timer). t .left)) (sym (limits-timers gap s)) ∙ sym (counters .0) in
+      let same : times s ≡ times (choose after) = ap (map (λ (t : Timer). t .left)) (sym (counters .0 ∙ limits-timers gap s)) in
       ap₂ (λ (ts ls : List ℕ). nearer (running (choose after)) (nearer (nearest ts) (nearest ls))) same (sym (counters .1))

@@ -43,7 +43,7 @@ limit-step-quiet s many none =
     in-order-map (limit-less 1) absent-thread (λ (t : Thread). eqb (t .limit) 1) limit-tick (λ (ts : List Thread). with-threads ts s)
     (λ i ts e. rw e) thread-count (s .threads) (omega arith) none
 
-choose-quiet : (s : State) → (scheduling-on s ≡ true → s .chosen ≡ choice s) → choose s ≡ s
+pub choose-quiet : (s : State) → (scheduling-on s ≡ true → s .chosen ≡ choice s) → choose s ≡ s
 unfolding choose
 choose-quiet s same = by-test (scheduling-on s) refl
   where

@@ -24,7 +24,7 @@ use rules::counting;
 use rules::counting::NEVER;
 
 // The place of the nearest timer.
-fn nearest_timer(image: &[u8]) -> u32
+pub fn nearest_timer(image: &[u8]) -> u32
     requires { ⌜ Sized (now image) ⌝ }
     ensures { λ r. ⌜ Nearest (map (λ (t : Timer). t .left) (view (now (image .entry)) .timers)) r ⌝ }
 {
@@ -39,7 +39,7 @@ fn nearest_timer(image: &[u8]) -> u32
 }
 
 // The place of the nearest limit.
-fn nearest_limit(image: &[u8]) -> u32
+pub fn nearest_limit(image: &[u8]) -> u32
     requires { ⌜ Sized (now image) ⌝ }
     ensures { λ r. ⌜ Nearest (map (λ (t : Thread). t .limit) (view (now (image .entry)) .threads)) r ⌝ }
 {

@@ -10,3 +10,4 @@ pub mod waking;
 
 pub use moving::enter_tail;
 pub use moving::leave;
+pub use moving::list_of;
