@@ -50,9 +50,6 @@ static void one_case(uint8_t *room, size_t length, uint32_t *report) {
     read_part(image, length);
     read_part(request, sizeof request);
     for (int i = 0; i < REQUEST; i++) asked[i] = get32(request + NUMBER * i);
-#ifdef CALL_TO_COME
-    if (asked[0] == CALL_TO_COME) asked[0] = 0; /* .ci/compare leaves these out */
-#endif
     unsound = look(room, image, length, next);
     for (int i = 0; i < ORDIZGUM_REPORT_LENGTH; i++) report[i] = 0xA5A5A5A5u;
     answer = ordizgum_call(image, length, asked[0], asked[1], asked[2], asked[3], asked[4], asked[5], report);

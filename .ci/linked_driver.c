@@ -1,12 +1,3 @@
-/*
- * driver.c over the image with links, by the functions of the library that is on its way (crates/trial), which have names of their own. Time doesn't
- * pass there yet.
- */
-#define ordizgum_image_length ordizgum_linked_image_length
-#define ordizgum_fresh ordizgum_linked_fresh
-#define ordizgum_sound ordizgum_linked_sound
-#define ordizgum_call ordizgum_linked_call
-#define ordizgum_next_wake_up ordizgum_linked_next_wake_up
-#include "../bench/linked.h"
-#define CALL_TO_COME ORDIZGUM_ADVANCE
+/* driver.c over the library that is on its way. */
+#include "linked_names.h"
 #include "driver.c"

@@ -1,5 +1,5 @@
 // What is on its way to users of C, under names of its own and in no header: here it can be compared with the second program and measured before
-// it takes over. Of call 22 nothing is promised yet.
+// it takes over.
 ghost use mathlib.Core.Path.{_≡_};
 ghost use mathlib.Core.List.{[], _∷_};
 ghost use lib.Dec.{eqb};
@@ -7,14 +7,11 @@ ghost use lib.ListN.{length};
 ghost use Rattle.model.specs.Answers.{number};
 ghost use Rattle.model.specs.Layout.{image-length, sound-image};
 ghost use Rattle.rules.specs.Reports.{zero-if, asked, report-numbers};
-ghost use Rattle.trial.specs.Linked.{fresh-after, report-of, image-after, next-in};
+ghost use Rattle.in_place.specs.Kept.{fresh-kept, told, kept, next-told};
 use fields::places::IMAGE_LENGTH;
-use model::calls::ADVANCE;
 use model::requests::Request;
 use rules::reports;
-use rules::reports::REFUSED;
 use rules::reports::REPORT_LENGTH;
-use untimed::fresh;
 use untimed::next;
 
 #[no_mangle]
@@ -27,13 +24,9 @@ pub extern "C" fn ordizgum_linked_image_length() -> u32
 #[no_mangle]
 pub extern "C" fn ordizgum_linked_fresh(image: &mut [u8]) -> u32
     ensures answer { λ r. ⌜ r ≡ zero-if (eqb (length (now (image .entry))) image-length) ⌝ }
-    ensures image { λ _. ⌜ now (image .exit) ≡ fresh-after (now (image .entry)) ⌝ }
+    ensures image { λ _. ⌜ now (image .exit) ≡ fresh-kept (now (image .entry)) ⌝ }
 {
-    if image.len() != IMAGE_LENGTH {
-        return 1;
-    }
-    fresh::fresh(image);
-    0
+    if in_place::fresh(image) { 0 } else { 1 }
 }
 
 // Whether any bytes are a sound image with links: 0, or 1 where they aren't.
@@ -41,7 +34,7 @@ pub extern "C" fn ordizgum_linked_fresh(image: &mut [u8]) -> u32
 pub extern "C" fn ordizgum_linked_sound(image: &[u8]) -> u32
     ensures { λ r. ⌜ r ≡ zero-if (sound-image (now (image .entry))) ⌝ }
 {
-    if sound::is_sound(image) { 0 } else { 1 }
+    if in_place::is_sound(image) { 0 } else { 1 }
 }
 
 #[no_mangle]
@@ -55,18 +48,10 @@ pub extern "C" fn ordizgum_linked_call(
     d: u32,
     report: &mut [u32; REPORT_LENGTH],
 ) -> u32
-    ensures answer { λ r. ⌜ (((call ≡ 22) → ⊥) → r ≡ number (report-of (now (image .entry)) (asked call id a b c d) .answer)) ⌝ }
-    ensures report { λ _. ⌜ (((call ≡ 22) → ⊥) → now (report .exit) ≡ report-numbers (report-of (now (image .entry)) (asked call id a b c d))) ⌝ }
-    ensures image { λ _. ⌜ (((call ≡ 22) → ⊥) → now (image .exit) ≡ image-after (now (image .entry)) (asked call id a b c d)) ⌝ }
+    ensures answer { λ r. ⌜ r ≡ number (told (now (image .entry)) (asked call id a b c d) .answer) ⌝ }
+    ensures report { λ _. ⌜ now (report .exit) ≡ report-numbers (told (now (image .entry)) (asked call id a b c d)) ⌝ }
+    ensures image { λ _. ⌜ now (image .exit) ≡ kept (now (image .entry)) (asked call id a b c d) ⌝ }
 {
-    if call == ADVANCE {
-        *report = REFUSED;
-        return 1;
-    }
-    if !sound::is_sound(image) {
-        *report = REFUSED;
-        return 1;
-    }
     let q = Request {
         call: call,
         id: id,
@@ -75,7 +60,7 @@ pub extern "C" fn ordizgum_linked_call(
         c: c,
         d: d,
     };
-    let told = untimed::untimed(image, q);
+    let told = in_place::call(image, q);
     let numbers = reports::as_numbers(told);
     *report = numbers;
     numbers[0]
@@ -84,9 +69,9 @@ pub extern "C" fn ordizgum_linked_call(
 #[no_mangle]
 pub extern "C" fn ordizgum_linked_next_wake_up(image: &[u8], next: &mut [u32; 1]) -> u32
     ensures answer { λ r. ⌜ r ≡ zero-if (sound-image (now (image .entry))) ⌝ }
-    ensures next { λ _. ⌜ now (next .exit) ≡ next-in (now (image .entry)) ∷ [] ⌝ }
+    ensures next { λ _. ⌜ now (next .exit) ≡ next-told (now (image .entry)) .next ∷ [] ⌝ }
 {
-    if !sound::is_sound(image) {
+    if !in_place::is_sound(image) {
         *next = [0];
         return 1;
     }

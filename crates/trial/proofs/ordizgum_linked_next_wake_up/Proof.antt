@@ -7,13 +7,13 @@ use borrow.Author.Tests.{not-true, not-false}
 use denote.Ref.{now}
 use Rattle.model.specs.Layout.{sound-image}
 use Rattle.untimed.proofs.Laid.{sound-whole}
-use Rattle.trial.specs.Linked.{next-in}
+use Rattle.in_place.specs.Kept.{next-told}
 use borrow.Author.Needs.{needs}
 use Rattle.trial.proofs.ordizgum_linked_next_wake_up.Statement.{statement}
 use Rattle.trial.proofs.ordizgum_linked_next_wake_up.Tie as tie
 
 returns : tie.Need-returns
-unfolding next-in
+unfolding next-told
 returns c =
     let e = c .before .before in
     rw (sym (e .is-sound .ensures) ∙ not-true (e .is-sound .result) (c .before .if1 .taken)) (refl, refl)
@@ -25,7 +25,7 @@ next-wake-up-requires : tie.Need-next-wake-up-requires
 next-wake-up-requires c κs = sound-whole (now (c .before .before .before .args .image)) (found c)
 
 returns-2 : tie.Need-returns-2
-unfolding next-in
+unfolding next-told
 returns-2 c =
     let n = c .before in
     rw (found (n .before)) (refl, ap (λ (x : ℕ). x ∷ []) (n .next-wake-up .ensures))
