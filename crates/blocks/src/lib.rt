@@ -1,4 +1,6 @@
 // A block of a replay file: each record is decoded, called and told on a line (01, Replay file). The lines of a block go into one buffer.
+#![tactic(auto)]
+
 ghost use Rattle.std.specs.Prelude.{◌≡◌, ◌++◌, ◌+◌, ◌*◌, ◌<◌, ◌≤◌, length, take, drop};
 ghost use Rattle.io.specs.Counts.{IsPrefixLen};
 ghost use Rattle.model.specs.Replay.{line_of};

@@ -1,5 +1,7 @@
 // For users: a fresh table, the soundness test, a whole call, an advance, the next wake-up, and the number of an answer. Each takes any table,
 // any rows and any numbers; where the table isn't sound the answer is 1, and every field stays as it was.
+#![tactic(auto)]
+
 ghost use Rattle.std.specs.Prelude.{◌≡◌};
 ghost use Rattle.model.specs.declared.answers.Answer.TheVariants.{Unsound};
 ghost use Rattle.model.specs.State.{nobody};

@@ -1,5 +1,7 @@
 // The table is its image: each record and field read and written where it stands in the lent bytes. What a field means, and where it stands, is
 // said in Layout.antt of the model; `view` reads it. The links have a crate of their own, which is lent their part.
+#![tactic(auto)]
+
 pub mod flags;
 pub mod head;
 pub mod mutexes;

@@ -1,5 +1,7 @@
 // The table as bytes (docs/IMAGE.md): `reading` takes an image apart by offset, `writing` puts a table into one. Any bytes of the right
 // length make a table, and whether that is sound is a test of its own. Parts of the image are lent, never copied.
+#![tactic(auto)]
+
 mod reading;
 mod writing;
 

@@ -1,5 +1,7 @@
 // For users who lend their image: a fresh one, the soundness test, a whole call, an advance, the next wake-up. Each takes any bytes of any length
 // and any numbers; where the image isn't sound the answer is 1, and every byte stays as it was.
+#![tactic(auto)]
+
 ghost use Rattle.std.specs.Prelude.{◌≡◌, eqb, length};
 ghost use Rattle.model.specs.Layout.{image_length};
 ghost use Rattle.model.specs.Promises.{advancing};

@@ -1,5 +1,7 @@
 // The answer of every call on an image that words can be said of: which refusals are due, and which of them is given (01, Answers, and each
 // call's row). The order of the answers stands in `rules::due` and nowhere else. Nothing is changed here.
+#![tactic(auto)]
+
 ghost use Rattle.std.specs.Prelude.{◌≡◌};
 ghost use Rattle.model.specs.Calls.{numbered};
 ghost use Rattle.model.specs.Kernel.{judge};

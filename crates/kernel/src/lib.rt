@@ -1,5 +1,7 @@
 // The calls in which no time passes, 1 to 21: their effects, a file per object family, then the choice, and the reply; and the next
 // wake-up. Which call is refused is the business of the crate below.
+#![tactic(auto)]
+
 ghost use Rattle.std.specs.Prelude.{◌≡◌, true, ◌<◌};
 ghost use Rattle.model.specs.Calls.{numbered};
 ghost use Rattle.model.specs.Kernel.{judge, perform, next_state, call};

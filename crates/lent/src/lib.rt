@@ -1,5 +1,7 @@
 // The table as a value that its user holds, an array of its image's bytes: covered functions take one and hand one back; the thin functions behind
 // them are lent one, call those and store the result.
+#![tactic(auto)]
+
 ghost use Rattle.std.specs.Prelude.{◌≡◌};
 ghost use Rattle.model.specs.State.{fresh};
 ghost use Rattle.model.specs.Layout.{lay};

@@ -1,4 +1,6 @@
 // Numbers in bytes, low byte first, and bytes copied from one slice to another: what image and records are read and written by.
+#![tactic(auto)]
+
 ghost use Rattle.std.specs.Prelude.{◌≡◌, ◌+◌, ◌*◌, ◌<◌, ◌≤◌, length};
 ghost use Rattle.std.proofs.lemmas.List.Edits.{sets};
 ghost use Rattle.sequences.specs.Bytes.{two_at, four_at, put};

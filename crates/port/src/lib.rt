@@ -1,4 +1,6 @@
 // The C port: the table as an image, calls as numbers (include/ordizgum.h). Each function takes any bytes of any length.
+#![tactic(auto)]
+
 ghost use Rattle.std.specs.Prelude.{◌≡◌, [], ◌∷◌};
 ghost use Rattle.model.specs.Answers.{number};
 ghost use Rattle.rules.specs.Reports.{zero_if, asked, report_numbers};

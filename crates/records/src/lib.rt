@@ -1,5 +1,7 @@
 // One record of a replay file: mark, call, id, and four numbers (01, Replay file). The decoder looks at the bytes from a record's first on;
 // how far apart records stand is the caller's matter.
+#![tactic(auto)]
+
 ghost use Rattle.std.specs.Prelude.{◌≡◌, ◌≤◌, length};
 ghost use Rattle.model.specs.Replay.{request_of};
 ghost use Rattle.records.specs.Records.{record_at};

@@ -1,5 +1,7 @@
 // The answer of every call on a sound table: which refusals are due, and which of them is given (01, Answers, and each call's row). Nothing
 // is changed here.
+#![tactic(auto)]
+
 ghost use Rattle.std.specs.Prelude.{◌≡◌, true};
 ghost use Rattle.model.specs.Calls.{numbered};
 ghost use Rattle.model.specs.Kernel.{judge};

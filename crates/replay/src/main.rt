@@ -1,6 +1,8 @@
 // The replay program (01, Replay file): replays the file that its argument names, or standard input, from a fresh table on. It reads a
 // block at a time and writes that block's lines at once, so that a file of any length takes the same memory. What goes wrong outside the
 // file's own bytes is told on standard error.
+#![tactic(auto)]
+
 mod input;
 mod messages;
 mod replaying;

@@ -1,4 +1,6 @@
 // Lists of ids in fixed room: one row of sixteen places, and eight of them with their lengths beside them. Places past a list's end
 // are 0, before and after. Wait lists and ready lists are both kept by these.
+#![tactic(auto)]
+
 pub mod eight;
 pub mod row;

@@ -1,4 +1,6 @@
 // Rules of document 01 that need no table: numbers or one record in, an answer or one record out.
+#![tactic(auto)]
+
 pub mod actions;
 pub mod conditions;
 pub mod counting;

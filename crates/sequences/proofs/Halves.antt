@@ -1,6 +1,6 @@
 -- A half of the links, and its lists, of which each has its own cells: i put between two parts of one list or taken out from there. The half
 -- back is a half of the lists read from behind, so what is shown of one half here serves both.
-use mathlib.Core.Path.{◌≡◌, sym, ◌∙◌, ap}
+use mathlib.Core.Path.{subst, ◌≡◌, sym, ◌∙◌, ap}
 use mathlib.Core.Logic.{◌↔◌}
 use mathlib.Core.List.{List, [], ◌∷◌, ◌++◌, map}
 use Prim.Native.Nat.{ℕ, suc, ◌+◌, ◌<◌, ◌≤◌}
@@ -53,7 +53,7 @@ module _ {n : ℕ} {ls : List (List ℕ)} (o : Once n ls) where
   -- no cell is on two lists
   pub elsewhere : (j k x y : ℕ) → (k ≡ j → ⊥) → 0 < count x ((n + k) ∷ get_or ls k []) → 0 < count y ((n + j) ∷ get_or ls j []) → x ≡ y → ⊥
   elsewhere j k x y d p q e =
-      let q' = rw (← e) at q in
+      let q' = subst (λ (z : ℕ). 0 < count z ((n + j) ∷ get_or ls j [])) (sym e) q in
       let two = count_two x j k ls d in
       elim (dec_lt x n) [
         | yes h ↦
@@ -101,7 +101,7 @@ module _ {n : ℕ} {ls more : List (List ℕ)} {j i : ℕ} {a b : List ℕ} (o :
 
   pub cell_differs : last_cell (n + j) a ≡ i → ⊥
   cell_differs e =
-      let p = rw e at (count-last (n + j) a) in
+      let p = subst (λ (z : ℕ). 0 < count z ((n + j) ∷ a)) e (count-last (n + j) a) in
       omega (arith, alone i, count-append i a (i ∷ b), count-first i b)
 
   module _ {f g : ℕ → ℕ} (t : Handed f g (last_cell (n + j) a) i (suc i)) where
@@ -126,7 +126,8 @@ module _ {n : ℕ} {ls more : List (List ℕ)} {j i : ℕ} {a b : List ℕ} (o :
     off-same x h d z =
         t.rest x
         (λ e.
-        let p = rw (ne_eqb (n + j) x (λ s. omega arith)) at (rw (← e) at (count-last (n + j) a)) in
+        let p₀ = subst (λ (z : ℕ). 0 < count z ((n + j) ∷ a)) (sym e) (count-last (n + j) a) in
+        let p = rw (ne_eqb (n + j) x (λ s. omega arith)) at p₀ in
         omega (arith, count-append x a b, rw w.parts at (count_all-at x ls j)))
         d
 

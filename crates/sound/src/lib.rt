@@ -1,6 +1,8 @@
 // Whether any bytes are a sound image (01, The table, the paragraph on soundness). Nothing is trusted: the links are followed first, and each
 // thread is noted with the list that it is read on; then a pass over the threads, the choice, and a pass over each kind of object ask what is
 // left. The test ends at the first fault.
+#![tactic(auto)]
+
 ghost use Rattle.std.specs.Prelude.{◌≡◌};
 ghost use Rattle.model.specs.Layout.{sound_image};
 

@@ -1,5 +1,7 @@
 // Whether a table and its rows are sound (01, The table). Any field may hold anything: each pass below is safe on all of them, and a list
 // is walked only once its length and its ids are known to be in range.
+#![tactic(auto)]
+
 ghost use Rattle.std.specs.Prelude.{◌≡◌, true, ◌&&◌};
 ghost use Rattle.model.specs.Before.{view, sound_table};
 ghost use Rattle.soundness.specs.Shape.{Shape};

@@ -1,5 +1,7 @@
 // The words of which every call and every tick is made (01, Calls, the rules under the table), on the table and its ready rows. Each is
 // the model's word of the same name, and leaves the table orderly.
+#![tactic(auto)]
+
 pub mod choosing;
 pub mod entering;
 pub mod fresh;

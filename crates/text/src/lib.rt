@@ -1,4 +1,6 @@
 // The text of a replay's lines (01, Replay file), each put behind what stands in a buffer already. The caller sees to the room.
+#![tactic(auto)]
+
 ghost use Rattle.std.specs.Prelude.{◌≡◌, ◌++◌, ◌+◌, ◌≤◌, length, take, drop};
 ghost use Rattle.model.specs.Replay.{numbers, bad_record};
 ghost use Rattle.text.specs.Text.{followed, line_text};

@@ -1,5 +1,7 @@
 // The passing of time (01, One tick, and call 22). An advance has a turn for each wake-up among its ticks and none for the quiet ones, however
 // many they are; the clock is moved once, at the end.
+#![tactic(auto)]
+
 ghost use Rattle.std.specs.Prelude.{◌≡◌, ◌<◌, true};
 ghost use Rattle.model.specs.Time.{after_ticks, wakeups_in, next};
 ghost use Rattle.model.specs.Kernel.{span, call};

@@ -1,5 +1,7 @@
 // The passing of time (01, One tick, and call 22), in place. An advance has a turn for each wake-up among its ticks and none for the quiet ones,
 // however many they are; the clock is moved once, at the end. While quanta alone run out, timers and limits are owed the ticks and aren't looked at.
+#![tactic(auto)]
+
 ghost use Rattle.std.specs.Prelude.{◌≡◌, ◌+◌, ◌-◌, ◌<◌, true, false};
 ghost use Rattle.sequences.specs.Jumps.{Free};
 ghost use Rattle.model.specs.Words.{choose};

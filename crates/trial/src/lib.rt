@@ -1,5 +1,7 @@
 // What is on its way to users of C, under names of its own and in no header: here it can be compared with the second program and measured before
 // it takes over.
+#![tactic(auto)]
+
 ghost use Rattle.std.specs.Prelude.{◌≡◌, [], ◌∷◌, eqb, length};
 ghost use Rattle.model.specs.Answers.{number};
 ghost use Rattle.model.specs.Layout.{image_length, sound_image};

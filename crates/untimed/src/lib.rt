@@ -1,5 +1,7 @@
 // The calls in which no time passes, 1 to 21, in place on a sound image: the answer, where it accepts the effect and then the choice, and the
 // report; and a fresh image, and the next wake-up.
+#![tactic(auto)]
+
 ghost use Rattle.std.specs.Prelude.{◌≡◌, true, ◌<◌};
 ghost use Rattle.model.specs.Calls.{numbered};
 ghost use Rattle.model.specs.Kernel.{judge, perform, next_state, call};

@@ -1,5 +1,7 @@
 // The whole example of 01, Replay file, on a table that is held in a local: thread 3 is created at priority 4 and started, then 5 ticks pass. A line
 // for each of the three calls: answer, chosen thread, clock, wake-ups.
+#![tactic(auto)]
+
 use fields::places::IMAGE_LENGTH;
 use lent::Held;
 use libc::STDOUT_FILENO;

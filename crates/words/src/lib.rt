@@ -1,5 +1,7 @@
 // The words of which every effect and every step of a tick is made, in place on a lent image (01, Calls, the rules under the table). Where links
 // change, their part of the image is lent on.
+#![tactic(auto)]
+
 pub mod choosing;
 mod moving;
 pub mod objects;
