@@ -12,7 +12,7 @@ use model::tables::Table;
 use records::{RECORD_LENGTH, Record};
 
 // The table after a block, how many bytes of text it came to, and whether all of its records were good.
-#[derive(Drop)]
+#[derive(Clone, Copy)]
 pub struct Block {
     pub table: Table,
     pub length: usize,

@@ -12,12 +12,12 @@ use fields::places::IMAGE_LENGTH;
 use model::answers::Report;
 use model::requests::Request;
 
-#[derive(Drop)]
+#[derive(Clone, Copy)]
 pub struct Held {
     pub image: [u8; IMAGE_LENGTH],
 }
 
-#[derive(Drop)]
+#[derive(Clone, Copy)]
 pub struct Replied {
     pub report: Report,
     pub table: Held,

@@ -1,7 +1,7 @@
 -- One list followed by links of which nothing is known: what has been passed is the start of the list that is read, so that orderly links
 -- rule out every fault that ends the walk, and a walk that comes to the end has followed a list more. Before that, what a walk tells, and where
 -- links stand in bytes.
-use mathlib.Core.Path.{◌≡◌, refl, sym, ◌∙◌, ap}
+use mathlib.Core.Path.{◌≡◌, refl, sym, ◌∙◌, ap, subst}
 use mathlib.Core.Bool.{true, false, ◌&&◌, false≢true}
 use mathlib.Core.List.{List, [], ◌∷◌, ◌++◌, append_assoc, append-nil}
 use Prim.Native.Nat.{ℕ, suc, ◌+◌, ◌-◌, ◌<◌, ◌≤◌}
@@ -67,7 +67,7 @@ led f c (y ∷ ys) h x z k e =
       | yes q ↦
           let there : f c ≡ suc z = rw q at e in
           let same : z ≡ y = omega (arith, h.0, there) in
-          rw same (count-first y ys)
+          subst (λ (w : ℕ). 0 < count w (y ∷ ys)) (sym same) (count-first y ys)
       | no d ↦
           let on = led f y ys h.1 x z (omega (arith, count_other x c d, count-append x (c ∷ []) (y ∷ ys))) e in
           omega (arith, count-append z (y ∷ []) ys)

@@ -1,6 +1,6 @@
 -- Which list an id stands on: the walk back along its list ends at the first, whose list is then found among the firsts. Each step back
 -- stays on the list and shortens the way.
-use mathlib.Core.Path.{◌≡◌, refl, sym, ◌∙◌, ap}
+use mathlib.Core.Path.{◌≡◌, refl, sym, ◌∙◌, ap, subst}
 use mathlib.Core.List.{List, [], ◌∷◌, ◌++◌}
 use Prim.Native.Nat.{ℕ, suc, ◌+◌, ◌-◌, ◌<◌, ◌≤◌}
 use native.Mathlib.Decide.{dec_lt}
@@ -24,7 +24,7 @@ nearer : (g : ℕ → ℕ) (x p n : ℕ) (b : List ℕ) → Chain g x b → leng
 nearer g x p n [] c h e = absurd (omega arith)
 nearer g x p n (q ∷ b) c h e =
     let same : q ≡ p = omega (arith, c.0) in
-    rw (← same) (count-first q b, rw (chain_along g x n (q ∷ b) c h, chain_along g q n b c.1 (omega arith)) (omega arith))
+    (subst (λ (w : ℕ). 0 < count w (q ∷ b)) same (count-first q b), rw (← same, chain_along g x n (q ∷ b) c h, chain_along g q n b c.1 (omega arith)) (omega arith))
 
 module _ {n m : ℕ} {s : List ℕ} {ls : List (List ℕ)} (v : Linked n m s ls) where
   abbrev back : ℕ → ℕ

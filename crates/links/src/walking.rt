@@ -41,7 +41,7 @@ pub fn cell_at(links: &[u8], n: usize, m: usize, j: usize, k: usize) -> usize
 }
 
 // A place on a list, and the cell that so many ids lead up to.
-#[derive(Drop)]
+#[derive(Clone, Copy)]
 pub struct Spot {
     pub place: usize,
     pub cell: usize,

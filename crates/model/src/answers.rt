@@ -2,7 +2,7 @@
 // ready rows come back beside the reply.
 use crate::tables::Table;
 
-#[derive(Drop)]
+#[derive(Clone, Copy)]
 pub enum Answer {
     Done,
     Unsound,
@@ -17,7 +17,7 @@ pub enum Answer {
     Waits,
 }
 
-#[derive(Drop)]
+#[derive(Clone, Copy)]
 pub struct Report {
     pub answer: Answer,
     pub chosen: u8,
@@ -26,7 +26,7 @@ pub struct Report {
     pub next: u32,
 }
 
-#[derive(Drop)]
+#[derive(Clone, Copy)]
 pub struct Reply {
     pub report: Report,
     pub table: Table,

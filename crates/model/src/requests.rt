@@ -1,7 +1,7 @@
 // One call as it is asked for (01, Calls). Any six numbers make a request; what is wrong with them is a refusal, also a call or an id
 // past a byte.
 
-#[derive(Drop)]
+#[derive(Clone, Copy)]
 pub struct Request {
     pub call: u32,
     pub id: u32,

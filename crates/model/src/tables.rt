@@ -6,7 +6,7 @@ use crate::lists::LIST_COUNT;
 // How the choice of no thread is written.
 pub const NOBODY: u8 = 255;
 
-#[derive(Drop)]
+#[derive(Clone, Copy)]
 pub struct Thread {
     pub created: u8,
     pub base: u8,
@@ -20,7 +20,7 @@ pub struct Thread {
     pub delivered: u16,
 }
 
-#[derive(Drop)]
+#[derive(Clone, Copy)]
 pub struct Semaphore {
     pub created: u8,
     pub count: u16,
@@ -28,21 +28,21 @@ pub struct Semaphore {
 }
 
 // A depth of 0 means unowned, and the owner is then written 0.
-#[derive(Drop)]
+#[derive(Clone, Copy)]
 pub struct Mutex {
     pub created: u8,
     pub owner: u8,
     pub depth: u8,
 }
 
-#[derive(Drop)]
+#[derive(Clone, Copy)]
 pub struct Flags {
     pub created: u8,
     pub word: u16,
 }
 
 // A timer runs while its left is above 0. `count` is how often it expired.
-#[derive(Drop)]
+#[derive(Clone, Copy)]
 pub struct Timer {
     pub period: u32,
     pub left: u32,
@@ -54,7 +54,7 @@ pub struct Timer {
 }
 
 // The first `length` of `ids`, in order; the places behind them are 0.
-#[derive(Drop)]
+#[derive(Clone, Copy)]
 pub struct IdList {
     pub length: u8,
     pub ids: [u8; 16],
@@ -62,7 +62,7 @@ pub struct IdList {
 
 // `off` is 0 while scheduling is on. `lengths` are those of the ready lists, by priority. `waits` are the sleep list, the
 // stopped list, and then the wait lists of the semaphores, the mutexes and the flag objects.
-#[derive(Drop)]
+#[derive(Clone, Copy)]
 pub struct Table {
     pub clock: u32,
     pub off: u8,

@@ -14,7 +14,7 @@ const FIRST_MARK: u8 = 0xAC;
 
 const SECOND_MARK: u8 = 0xDC;
 
-#[derive(Drop)]
+#[derive(Clone, Copy)]
 pub enum Record {
     Call(Request),
     Bad(u64),

@@ -2,7 +2,7 @@
 // must not pass for a short one.
 ghost use Rattle.io.specs.Counts.{IsPrefixLen};
 
-#[derive(Drop)]
+#[derive(Clone, Copy)]
 pub struct Filled {
     pub count: usize,
     pub failed: bool,

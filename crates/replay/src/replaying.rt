@@ -13,7 +13,7 @@ const ROOM: usize = 68880;
 
 const LAST_OFFSET: u64 = u64::MAX - BLOCK as u64;
 
-#[derive(Drop)]
+#[derive(Clone, Copy)]
 struct Replayed {
     table: Table,
     more: bool,

@@ -6,7 +6,7 @@ ghost use Rattle.rules.specs.Due.{listed};
 use model::answers::Answer;
 
 // For the answers from 3 to 10 whether each is due.
-#[derive(Drop)]
+#[derive(Clone, Copy)]
 pub struct Due {
     pub object: bool,
     pub number: bool,

@@ -26,7 +26,7 @@ mod skips;
 mod timers;
 
 // A table after some ticks, and how many of them were wake-ups.
-#[derive(Drop)]
+#[derive(Clone, Copy)]
 struct Passed {
     table: Table,
     wakeups: u32,

@@ -34,7 +34,7 @@ mod timers;
 mod walks;
 
 // What lies ahead: the places of the nearest timer or limit and of the end of the running thread's quantum; and from which thread on there are limits.
-#[derive(Drop)]
+#[derive(Clone, Copy)]
 struct Ahead {
     due: u32,
     quantum: u32,
@@ -42,14 +42,14 @@ struct Ahead {
 }
 
 // Timers below `stop` and threads' limits below `end` may run.
-#[derive(Drop)]
+#[derive(Clone, Copy)]
 struct Ends {
     stop: usize,
     end: usize,
 }
 
 // The wake-ups of an advance, and the next one after it.
-#[derive(Drop)]
+#[derive(Clone, Copy)]
 struct Passed {
     wakeups: u32,
     next: u32,

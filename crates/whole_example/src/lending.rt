@@ -6,7 +6,7 @@ use lent::Held;
 use model::answers::Report;
 use model::requests::Request;
 
-#[derive(Drop)]
+#[derive(Clone, Copy)]
 pub struct Told {
     pub created: Report,
     pub started: Report,

@@ -1,0 +1,6 @@
+use Rattle.sequences.proofs.Numbers.{two_put}
+use borrow.Author.Rules.{rules}
+use Rattle.packed.proofs.put_u16.Goals as goal
+
+pub returns : goal.returns
+returns c = two_put c.args.k c.args.x c.args.s.now

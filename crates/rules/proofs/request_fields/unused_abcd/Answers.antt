@@ -1,0 +1,6 @@
+-- One field more.
+use borrow.Author.Rules.{rules}
+use Rattle.rules.proofs.request_fields.unused_abcd.Goals as goal
+
+pub returns : goal.returns
+returns c = rw c.unused_bcd-rest.ensures
