@@ -1,0 +1,6 @@
+use Rattle.fields.proofs.Parts.{part-whole, flags-part}
+use borrow.Author.Rules.{rules}
+use Rattle.fields.proofs.flags.flag_object.Goals as goal
+
+pub returns : goal.returns
+returns c = rw c.u16_at.ensures (part-whole flags-part c.requires)

@@ -1,0 +1,11 @@
+use mathlib.Core.Path.{refl}
+use lib.Dec.{lit<}
+use Rattle.model.specs.Parts.{with_word}
+use Rattle.fields.proofs.Parts.{part_written, flags-part}
+use borrow.Author.Rules.{rules}
+use Rattle.fields.proofs.flags.set_word.Goals as goal
+
+pub returns : goal.returns
+returns c =
+    let x = c.args.x in
+    part_written flags-part c.requires 1 x (with_word x) (lit< tt) c.put_u16.ensures (λ n. refl)

@@ -1,0 +1,10 @@
+use mathlib.Core.Path.{refl}
+use lib.Dec.{lit<}
+use Rattle.model.specs.Parts.{with_clock}
+use Rattle.fields.proofs.Parts.{head_written}
+use borrow.Author.Rules.{rules}
+use Rattle.fields.proofs.head.set_clock.Goals as goal
+
+pub returns : goal.returns
+returns c =
+    head_written c.args.image.now 0 c.args.x (with_clock c.args.x) c.requires (lit< tt) (lit< tt) c.put_u32.ensures refl

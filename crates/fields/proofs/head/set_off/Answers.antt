@@ -1,0 +1,9 @@
+use mathlib.Core.Path.{refl}
+use lib.Dec.{lit<}
+use Rattle.model.specs.Parts.{with_off}
+use Rattle.fields.proofs.Parts.{head_written}
+use borrow.Author.Rules.{rules}
+use Rattle.fields.proofs.head.set_off.Goals as goal
+
+pub returns : goal.returns
+returns c = head_written c.args.image.now 1 c.args.x (with_off c.args.x) c.requires (lit< tt) (lit< tt) refl refl

@@ -1,0 +1,9 @@
+use mathlib.Core.Path.{refl}
+use lib.Dec.{lit<}
+use Rattle.model.specs.declared.tables.Semaphore.{Semaphore}
+use Rattle.fields.proofs.Parts.{part_read, semaphores-part}
+use borrow.Author.Rules.{rules}
+use Rattle.fields.proofs.semaphores.created.Goals as goal
+
+pub returns : goal.returns
+returns c = part_read semaphores-part c.requires 0 (λ (x : Semaphore). x.created) (lit< tt) (λ n. refl)

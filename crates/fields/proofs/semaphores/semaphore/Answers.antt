@@ -1,0 +1,6 @@
+use Rattle.fields.proofs.Parts.{part-whole, semaphores-part}
+use borrow.Author.Rules.{rules}
+use Rattle.fields.proofs.semaphores.semaphore.Goals as goal
+
+pub returns : goal.returns
+returns c = rw (c.u16_at.ensures, c.u16_at-2.ensures) (part-whole semaphores-part c.requires)

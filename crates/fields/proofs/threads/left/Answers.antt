@@ -1,0 +1,9 @@
+use mathlib.Core.Path.{refl, ◌∙◌}
+use lib.Dec.{lit<}
+use Rattle.model.specs.declared.tables.Thread.{Thread}
+use Rattle.fields.proofs.Parts.{part_read, threads-part}
+use borrow.Author.Rules.{rules}
+use Rattle.fields.proofs.threads.left.Goals as goal
+
+pub returns : goal.returns
+returns c = c.u16_at.ensures ∙ part_read threads-part c.requires 4 (λ (x : Thread). x.left) (lit< tt) (λ n. refl)

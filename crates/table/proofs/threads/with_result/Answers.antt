@@ -1,0 +1,10 @@
+-- The record that is stored is the one that was read, changed.
+use Rattle.model.specs.Parts.{with_result}
+use Rattle.table.proofs.Rewriting.{rewritten_thread}
+use borrow.Author.Rules.{rules}
+use Rattle.table.proofs.threads.with_result.Goals as goal
+
+pub returns : goal.returns
+returns c =
+    let e = c.thread-x.ensures in
+    rewritten_thread c.args.t c.with_thread.result c.args.i _ (with_result c.args.res) (rw e) c.with_thread.ensures
