@@ -13,7 +13,7 @@ pub answer-requires : goal.answer-requires
 answer-requires c = record { whole = c.requires; le_call = ((call-in_range c.args.q.call c.if-call.false).0, c.if-call-lt-CREATE_SEMAPHORE.true) }
 
 pub answer-requires-2 : goal.answer-requires-2
-answer-requires-2 c = record { whole = c.if-call-lt-SCHEDULING.false; le_call = (call-in_range c.args.q.call c.if-call.false).1 }
+answer-requires-2 c = (c.if-call-lt-SCHEDULING.false, (call-in_range c.args.q.call c.if-call.false).1)
 
 pub returns : goal.returns
 returns c = c.answer-2.ensures (view c.args.image.now)

@@ -56,6 +56,6 @@ unfolding judge numbered calls
 returns-in_default c =
     let a = c.args in
     let m = c.in_default in
-    let high : 4 < a.q.call = omega (arith, c.requires.le_call, m.rest.0.0.0) in
-    let last : a.q.call ≡ 8 = omega (arith, high, c.requires.le_call, m.rest.0.0.1, m.rest.0.1, m.rest.1) in
+    let high : 4 < a.q.call = omega (arith, c.requires.le_call, m.in_default-own.rest.0.0.0) in
+    let last : a.q.call ≡ 8 = omega (arith, high, c.requires.le_call, m.in_default-own.rest.0.0.1, m.in_default-own.rest.0.1, m.in_default-own.rest.1) in
     by_number a.q (view a.image.now) 8 last c.set_quantum.ensures
