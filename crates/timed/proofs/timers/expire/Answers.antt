@@ -7,8 +7,8 @@ use Rattle.model.specs.Parts.{timer, with_timers, alter_timer, with_time}
 use Rattle.model.specs.Tick.{expired}
 use Rattle.model.specs.Layout.{view}
 use Rattle.fields.specs.Fields.{Alters}
-use Rattle.timed.proofs.timers.expire.Statement.{statement}
-use Rattle.timed.proofs.timers.expire.Tie as tie
+use Rattle.timed.proofs.timers.expire.Goals as goal
+use Rattle.timed.proofs.timers.expire.Goals.{then-t-eq1, else-t-eq1}
 
 expires : (b r : List ℕ) (o : ℕ) (t : Timer) {left count : ℕ} → t ≡ timer o (view b) → left ≡ (expired t).left → count ≡ (expired t).count
     → Alters b (alter_timer o (with_time left count)) r → Alters b (alter_timer o expired) r
@@ -22,23 +22,13 @@ expires b r o t {left} {count} is e f a =
       links = a.links;
     }
 
-returns : tie.Need-returns
+pub returns : goal.returns
 returns c =
-    let set = c.before.before in
-    let count = set.before.before in
-    let j = count.before in
-    let s = j.before.before.before in
-    let b = s.args.image.now in
-    let t = s.args.t in
-    let left : j.if1.again ≡ (expired t).left =
-    ⊎_elim
-    (λ p. rw (p.1, eq-eqb t.repeat 1 p.0.taken))
-    (λ p. rw (p.1, ne_eqb t.repeat 1 p.0.left))
-    j.if1.branch
-    in (
-      expires b set.set-time.new.0 s.args.o t s.requires.1 left count.wrapping-add-u32.ensures set.set-time.ensures,
-      left,
-    )
-
-pub expire-spec : {M : Type 1} → statement M
-expire-spec = tie.close (tie.spec (λ c κs. search rules) (λ c κs. search rules) (λ c. search rules) returns)
+    let b = c.args.image.now in
+    let t = c.args.t in
+    let left : c.if-t-eq1.again ≡ (expired t).left =
+    elim c.if-t-eq1.branch [
+      | then-t-eq1 w ↦ rw (w.again-is, eq-eqb t.repeat 1 w.if-t-eq1.true)
+      | else-t-eq1 w ↦ rw (w.again-is, ne_eqb t.repeat 1 w.if-t-eq1.false)
+    ]
+    in record { image = expires b c.set_time.new.image c.args.o t c.requires.t_value left c.wrapping_add_u32-count.ensures.value c.set_time.ensures; left = left }

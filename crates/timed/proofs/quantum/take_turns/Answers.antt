@@ -16,8 +16,7 @@ use Rattle.words.proofs.Firsts.{ready-first}
 use Rattle.timed.specs.Counters.{running}
 use Rattle.timed.specs.Turns.{turn_over, take_turns}
 use Rattle.timed.proofs.Turning.{chosen-named, some_heir, heir_below, heir_takes, heir_runs}
-use Rattle.timed.proofs.quantum.take_turns.Statement.{statement}
-use Rattle.timed.proofs.quantum.take_turns.Tie as tie
+use Rattle.timed.proofs.quantum.take_turns.Goals as goal
 
 module _ {b : List ℕ} (pre : Whole b × ((quantum_counts (view b) ≡ true) × (choice (view b) ≡ (view b).chosen)))
     {i p : ℕ} (chosen : i ≡ (view b).chosen) (level : p ≡ (thread i (view b)).current) {r : List ℕ} (turn : Does b turn_over r) where
@@ -59,86 +58,34 @@ module _ {b : List ℕ} (pre : Whole b × ((quantum_counts (view b) ≡ true) ×
     runs : q ≡ running (view v)
     runs = now-all ∙ sym (heir_runs pre.0.placed pre.1.0 pre.1.1 link-is) ∙ sym (ap running taken.view)
 
-current-requires : tie.Need-current-requires
-current-requires c κs =
-    let h = c.before in
-    let s = h.before.before.before in
-    chosen-named s.requires.0 s.requires.1.0 h.chosen.ensures
+pub current-p-requires : goal.current-p-requires
+current-p-requires c =
+    chosen-named c.requires.whole c.requires.image_value.0 c.chosen-c.ensures
 
-slice-read-heir : tie.Need-slice-read-heir
-slice-read-heir c =
-    let t = c.before.before.before in
-    let u = t.before.before in
-    let h = u.before.before in
-    let s = h.before.before.before in
-    link_in s.requires h.chosen.ensures u.current.ensures t.turn-over.ensures
+pub bounds-image-p : goal.bounds-image-p
+bounds-image-p c =
+    link_in (c.requires.whole, c.requires.image_value) c.chosen-c.ensures c.current-p.ensures c.turn_over.ensures
 
-sub-heir : tie.Need-overflow-sub-heir
-sub-heir c =
-    let t = c.before.before.before in
-    let u = t.before.before in
-    let h = u.before.before in
-    let s = h.before.before.before in
-    link-some s.requires h.chosen.ensures u.current.ensures t.turn-over.ensures
+pub overflow_sub-heir : goal.overflow_sub-heir
+overflow_sub-heir c =
+    link-some (c.requires.whole, c.requires.image_value) c.chosen-c.ensures c.current-p.ensures c.turn_over.ensures
 
-cast-i : tie.Need-overflow-cast-i
-cast-i c =
-    let t = c.before.before.before in
-    let u = t.before.before in
-    let h = u.before.before in
-    let s = h.before.before.before in
-    omega (arith, (heir-named s.requires h.chosen.ensures u.current.ensures t.turn-over.ensures).there)
+pub overflow_cast-i : goal.overflow_cast-i
+overflow_cast-i c =
+    omega (arith, (heir-named (c.requires.whole, c.requires.image_value) c.chosen-c.ensures c.current-p.ensures c.turn_over.ensures).there)
 
-quantum-requires : tie.Need-quantum-requires
-quantum-requires c κs =
-    let t = c.before.before.before.before in
-    let u = t.before.before in
-    let h = u.before.before in
-    let s = h.before.before.before in
-    heir-named s.requires h.chosen.ensures u.current.ensures t.turn-over.ensures
+pub quantum-all-requires : goal.quantum-all-requires
+quantum-all-requires c =
+    heir-named (c.requires.whole, c.requires.image_value) c.chosen-c.ensures c.current-p.ensures c.turn_over.ensures
 
-set-left-requires : tie.Need-set-left-requires
-set-left-requires c κs =
-    let t = c.before.before.before.before.before.before in
-    let u = t.before.before in
-    let h = u.before.before in
-    let s = h.before.before.before in
-    heir-named s.requires h.chosen.ensures u.current.ensures t.turn-over.ensures
+pub set_left-requires : goal.set_left-requires
+set_left-requires c =
+    heir-named (c.requires.whole, c.requires.image_value) c.chosen-c.ensures c.current-p.ensures c.turn_over.ensures
 
-returns : tie.Need-returns
+pub returns : goal.returns
 returns c =
-    let k = c.before.before.before in
-    let l = k.before.before.before.before in
-    let q = l.before.before in
-    let t = q.before.before.before.before.before in
-    let u = t.before.before in
-    let h = u.before.before in
-    let s = h.before.before.before in (
-      taken s.requires h.chosen.ensures u.current.ensures t.turn-over.ensures
-          q.quantum.ensures l.set-left.ensures k.set-chosen.ensures,
-      c.place.ensures
+    record { image = taken (c.requires.whole, c.requires.image_value) c.chosen-c.ensures c.current-p.ensures c.turn_over.ensures
+          c.quantum-all.ensures c.set_left.ensures c.set_chosen.ensures; quantum = c.place.ensures
           ∙ ap place
-          (runs s.requires h.chosen.ensures u.current.ensures t.turn-over.ensures
-          q.quantum.ensures l.set-left.ensures k.set-chosen.ensures),
-    )
-
-pub take-turns-spec : {M : Type 1} → statement M
-take-turns-spec =
-    tie.close
-    (tie.spec
-    (λ c κs. search rules)
-    (λ c. search rules)
-    current-requires
-    (λ c. search rules)
-    (λ c κs. search rules)
-    (λ c. search rules)
-    slice-read-heir
-    sub-heir
-    cast-i
-    quantum-requires
-    set-left-requires
-    (λ c κs. search rules)
-    (λ c. search rules)
-    (λ c κs. search rules)
-    (λ c. search rules)
-    returns)
+          (runs (c.requires.whole, c.requires.image_value) c.chosen-c.ensures c.current-p.ensures c.turn_over.ensures
+          c.quantum-all.ensures c.set_left.ensures c.set_chosen.ensures) }

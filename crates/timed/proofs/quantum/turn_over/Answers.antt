@@ -10,8 +10,7 @@ use Rattle.words.proofs.Does.{same_word, and_then, rewritten_does}
 use Rattle.words.proofs.Known.{ready_on, rewritten_ready}
 use Rattle.timed.specs.Turns.{turn_over}
 use Rattle.timed.proofs.Turning.{renewed, chosen-named, chosen-ready}
-use Rattle.timed.proofs.quantum.turn_over.Statement.{statement}
-use Rattle.timed.proofs.quantum.turn_over.Tie as tie
+use Rattle.timed.proofs.quantum.turn_over.Goals as goal
 
 module _ {b : List ℕ} (pre : Whole b × ((quantum_counts (view b) ≡ true) × (choice (view b) ≡ (view b).chosen)))
     {i : ℕ} (chosen : i ≡ (view b).chosen) where
@@ -35,54 +34,22 @@ module _ {b : List ℕ} (pre : Whole b × ((quantum_counts (view b) ≡ true) ×
         same_word (and_then (rewritten_does i (with_left q) pre.0 a (λ t. refl)) d) turn_over
         (ap (become_ready i) (renewed i (view b) all) ∙ ap (λ (k : ℕ). become_ready k (alter_thread k refilled (view b))) chosen)
 
-quantum-requires : tie.Need-quantum-requires
-quantum-requires c κs =
-    let h = c.before in
-    let s = h.before.before.before in
-    named s.requires h.chosen.ensures
+pub quantum-all-requires : goal.quantum-all-requires
+quantum-all-requires c =
+    named (c.requires.whole, c.requires.image_value) c.chosen-c.ensures
 
-set-left-requires : tie.Need-set-left-requires
-set-left-requires c κs =
-    let h = c.before.before.before in
-    let s = h.before.before.before in
-    named s.requires h.chosen.ensures
+pub set_left-requires : goal.set_left-requires
+set_left-requires c =
+    named (c.requires.whole, c.requires.image_value) c.chosen-c.ensures
 
-current-requires : tie.Need-current-requires
-current-requires c κs =
-    let l = c.before.before.before in
-    let h = l.before.before.before.before in
-    let s = h.before.before.before in
-    record { size = l.set-left.ensures.size; there = (named s.requires h.chosen.ensures).there }
+pub current-p-requires : goal.current-p-requires
+current-p-requires c =
+    record { size = c.set_left.ensures.size; there = (named (c.requires.whole, c.requires.image_value) c.chosen-c.ensures).there }
 
-become-ready-requires : tie.Need-become-ready-requires
-become-ready-requires c κs =
-    let u = c.before in
-    let l = u.before.before.before.before in
-    let q = l.before.before in
-    let h = q.before.before in
-    let s = h.before.before.before in
-    stands s.requires h.chosen.ensures q.quantum.ensures l.set-left.ensures u.current.ensures
+pub become_ready-requires : goal.become_ready-requires
+become_ready-requires c =
+    stands (c.requires.whole, c.requires.image_value) c.chosen-c.ensures c.quantum-all.ensures c.set_left.ensures c.current-p.ensures
 
-returns : tie.Need-returns
+pub returns : goal.returns
 returns c =
-    let d = c.before.before in
-    let u = d.before.before in
-    let l = u.before.before.before.before in
-    let q = l.before.before in
-    let h = q.before.before in
-    let s = h.before.before.before in
-    turns s.requires h.chosen.ensures q.quantum.ensures l.set-left.ensures d.become-ready.ensures
-
-pub turn-over-spec : {M : Type 1} → statement M
-turn-over-spec =
-    tie.close
-    (tie.spec
-    (λ c κs. search rules)
-    (λ c. search rules)
-    quantum-requires
-    set-left-requires
-    current-requires
-    (λ c. search rules)
-    become-ready-requires
-    (λ c. search rules)
-    returns)
+    turns (c.requires.whole, c.requires.image_value) c.chosen-c.ensures c.quantum-all.ensures c.set_left.ensures c.become_ready.ensures
