@@ -5,15 +5,11 @@ use Prim.Native.Nat.{ℕ}
 use Rattle.lent.specs.declared.Held.{Held}
 use Rattle.in_place.specs.Kept.{fresh_kept}
 use borrow.Author.Rules.{rules}
-use Rattle.lent.proofs.fresh_held.Statement.{statement}
-use Rattle.lent.proofs.fresh_held.Tie as tie
+use Rattle.lent.proofs.fresh_held.Goals as goal
 
 abbrev holding : List ℕ → Held
 holding b = record { image = b }
 
-returns : tie.Need-returns
+pub returns : goal.returns
 unfolding fresh_kept
-returns c = ap holding c.before.fresh.ensures.1
-
-pub fresh-held-spec : {M : Type 1} → statement M
-fresh-held-spec = tie.close (tie.spec (λ c. search rules) (λ c κs. search rules) returns)
+returns c = ap holding c.fresh.ensures.image
