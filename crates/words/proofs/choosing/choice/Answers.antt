@@ -1,4 +1,3 @@
--- From the highest priority down: the choice among all lists is the choice among those still to be looked at.
 use mathlib.Core.Path.{◌≡◌, sym, ◌∙◌, ap}
 use mathlib.Core.Logic.{⊎_elim}
 use mathlib.Core.List.{List}
@@ -18,14 +17,8 @@ use Rattle.fields.specs.Fields.{Sized}
 use Rattle.layout.proofs.Viewed.{many-ready}
 use Rattle.words.proofs.Firsts.{ready-first, head_linked, linked_long, unlinked_empty}
 use borrow.Author.Rules.{rules}
-use Rattle.words.proofs.choosing.choice.Statement.{statement}
-use Rattle.words.proofs.choosing.choice.Tie as tie
-
-abbrev invariant-loop : tie.invariant-loop
-invariant-loop image above₀ above = (above ≤ 8) × (last_nonempty (view image).ready ≡ last_nonempty (take above (view image).ready))
-
-abbrev decreases-loop : tie.decreases-loop
-decreases-loop image above₀ above = above
+use Rattle.words.proofs.choosing.choice.Goals as goal
+use Rattle.words.proofs.choosing.choice.Goals.{then-u32_at-eq0, else-u32_at-eq0}
 
 -- list p, where all above it are empty
 module _ (b : List ℕ) (size : Sized b) (above : ℕ) (here : 0 < above) (within : above ≤ 8)
@@ -61,48 +54,27 @@ upper-empty b size e =
     let fifth = not-here b size 6 (omega arith) (omega arith) sixth (omega (arith, e)) in
     not-here b size 5 (omega arith) (omega arith) fifth (omega (arith, e))
 
-loop-holds : tie.Need-loop-init invariant-loop decreases-loop
-loop-holds c =
-    let r = c.before in
-    let s = r.before.before in
-    let b = s.args.image.now in
-    ⊎_elim (λ w. rw w.1 (omega arith, upper-empty b s.requires (sym r.u32-at.ensures ∙ w.0.taken)))
-    (λ w. rw w.1 (omega arith, sym (ap last_nonempty (take_all 8 (view b).ready (omega (arith, many-ready b s.requires))))))
-    c.if1.branch
+pub loop-above-init : goal.loop-above-init
+loop-above-init c =
+    let b = c.args.image.now in
+    elim c.if-u32_at-eq0.branch [
+      | then-u32_at-eq0 w ↦ rw w.above-is (omega arith, upper-empty b c.requires (sym c.u32_at.ensures ∙ w.if-u32_at-eq0.true))
+      | else-u32_at-eq0 w ↦
+          rw w.above-is (omega arith, sym (ap last_nonempty (take_all 8 (view b).ready (omega (arith, many-ready b c.requires)))))
+    ]
 
-returns : tie.Need-returns invariant-loop decreases-loop
+pub returns-then-link-ne0 : goal.returns-then-link-ne0
+returns-then-link-ne0 c =
+    let l = c.loop-above in
+    chosen-here c.args.image.now c.requires l.above (omega arith) l.invariant.0 l.invariant.1 (omega arith)
+
+pub loop-above-preserved : goal.loop-above-preserved
+loop-above-preserved c =
+    let l = c.loop-above in
+    (omega arith, not-here c.args.image.now c.requires l.above (omega arith) l.invariant.0 l.invariant.1 c.if-link-ne0.false)
+
+pub returns : goal.returns
 returns c =
-    let l = c.before.before.before.before.loop in
-    let s = c.before.before.before.before.before.before.before.before in
-    chosen-here s.args.image.now s.requires l.above (omega arith) l.invariant.0 l.invariant.1 (omega arith)
-
-loop-again : tie.Need-loop-preserved invariant-loop decreases-loop
-loop-again c =
-    let l = c.before.before.before.before.loop in
-    let s = c.before.before.before.before.before.before.before.before in
-    (omega arith, not-here s.args.image.now s.requires l.above (omega arith) l.invariant.0 l.invariant.1 c.if2.false)
-
-returns-2 : tie.Need-returns-2 invariant-loop decreases-loop
-returns-2 c =
-    let s = c.before.before.before.before.before in
-    let ls = (view s.args.image.now).ready in
-    let none : c.before.loop.above ≡ 0 = omega (arith, c.loop-test.false) in
-    sym (ap (λ (k : List ℕ). head_or k nobody) (c.before.loop.invariant.1 ∙ ap (λ (n : ℕ). last_nonempty (take n ls)) none))
-
-pub choice-spec : {M : Type 1} → statement M
-choice-spec =
-    tie.close
-    (tie.spec
-    invariant-loop
-    decreases-loop
-    (λ c. search rules)
-    (λ c κs. search rules)
-    loop-holds
-    (λ c. search rules)
-    (λ c. search rules)
-    (λ c. search rules)
-    (λ c. search rules)
-    returns
-    (λ c. search rules)
-    loop-again
-    returns-2)
+    let ls = (view c.args.image.now).ready in
+    let none : c.loop-above.above ≡ 0 = omega (arith, c.loop-above-test.false) in
+    sym (ap (λ (k : List ℕ). head_or k nobody) (c.loop-above.invariant.1 ∙ ap (λ (n : ℕ). last_nonempty (take n ls)) none))

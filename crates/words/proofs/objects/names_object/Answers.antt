@@ -6,8 +6,7 @@ use Rattle.model.specs.State.{State}
 use Rattle.model.specs.Ranges.{names_object}
 use Rattle.model.specs.Layout.{view}
 use borrow.Author.Rules.{rules}
-use Rattle.words.proofs.objects.names_object.Statement.{statement}
-use Rattle.words.proofs.objects.names_object.Tie as tie
+use Rattle.words.proofs.objects.names_object.Goals as goal
 
 names-nothing : (kind object : ℕ) (s : State) → (kind ≡ 1 → ⊥) → (kind ≡ 2 → ⊥) → true ≡ names_object kind object s
 names-nothing zero object s a b = refl
@@ -15,17 +14,13 @@ names-nothing (suc zero) object s a b = absurd (a refl)
 names-nothing (suc (suc zero)) object s a b = absurd (b refl)
 names-nothing (suc (suc (suc kind))) object s a b = refl
 
-returns : tie.Need-returns
-returns c = rw c.before.if1.true c.has-semaphore.ensures
+pub returns-then-kind-eq-POST : goal.returns-then-kind-eq-POST
+returns-then-kind-eq-POST c = rw c.if-kind-eq-POST.true c.has_semaphore.ensures
 
-returns-2 : tie.Need-returns-2
-returns-2 c = rw c.before.if2.true c.has-flags.ensures
+pub returns-then-kind-eq-SET_FLAGS : goal.returns-then-kind-eq-SET_FLAGS
+returns-then-kind-eq-SET_FLAGS c = rw c.if-kind-eq-SET_FLAGS.true c.has_flags.ensures
 
-returns-3 : tie.Need-returns-3
-returns-3 c =
-    let a = c.before.before.before.args in
-    names-nothing a.kind a.object (view a.image.now) c.before.if1.false c.if2.false
-
-pub names-object-spec : {M : Type 1} → statement M
-names-object-spec =
-    tie.close (tie.spec (λ c κs. search rules) returns (λ c κs. search rules) returns-2 returns-3)
+pub returns : goal.returns
+returns c =
+    let a = c.args in
+    names-nothing a.kind a.object (view a.image.now) c.if-kind-eq-POST.false c.if-kind-eq-SET_FLAGS.false
