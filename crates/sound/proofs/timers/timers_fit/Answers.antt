@@ -1,0 +1,41 @@
+use mathlib.Core.Path.{◌≡◌, refl, sym}
+use mathlib.Core.Bool.{Bool, true}
+use Prim.Native.Nat.{ℕ, ◌-◌, ◌≤◌}
+use native.Mathlib.Omega.{arith}
+use borrow.Author.Tests.{not-true, not-false}
+use Rattle.sequences.specs.Lists.{every_below}
+use Rattle.sequences.proofs.Stopping.{one_passes, one_fails}
+use Rattle.model.specs.State.{State}
+use Rattle.model.specs.Parts.{timer}
+use Rattle.model.specs.Layout.{view}
+use Rattle.sound.specs.Asked.{timer_asked, timers_asked}
+use borrow.Author.Rules.{rules}
+use Rattle.sound.proofs.timers.timers_fit.Invariants.{passes}
+use Rattle.sound.proofs.timers.timers_fit.Goals as goal
+
+pub loop-o-init : goal.loop-o-init
+unfolding every_below
+loop-o-init c = (omega arith, refl)
+
+pub returns-then-not-timer_fits : goal.returns-then-not-timer_fits
+unfolding timers_asked
+returns-then-not-timer_fits c =
+    let a = c.args in
+    let l = c.loop-o in
+    one_fails (passes (view a.image.now)) 8 l.o (omega arith)
+    c.timer_fits.ensures (c.if-not-timer_fits.true)
+
+pub loop-o-preserved : goal.loop-o-preserved
+loop-o-preserved c =
+    let a = c.args in
+    let l = c.loop-o in (
+      omega arith,
+      one_passes (passes (view a.image.now)) l.o l.invariant.1
+          c.timer_fits.ensures (c.if-not-timer_fits.false),
+    )
+
+pub returns : goal.returns
+unfolding timers_asked
+returns c =
+    let end : c.loop-o.o ≡ 8 = omega arith in
+    sym (rw end at c.loop-o.invariant.1)

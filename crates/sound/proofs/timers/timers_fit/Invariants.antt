@@ -1,0 +1,23 @@
+-- While it goes on, all timers before have passed.
+use mathlib.Core.Path.{◌≡◌, refl, sym}
+use mathlib.Core.Bool.{Bool, true}
+use Prim.Native.Nat.{ℕ, ◌-◌, ◌≤◌}
+use native.Mathlib.Omega.{arith}
+use borrow.Author.Tests.{not-true, not-false}
+use Rattle.sequences.specs.Lists.{every_below}
+use Rattle.sequences.proofs.Stopping.{one_passes, one_fails}
+use Rattle.model.specs.State.{State}
+use Rattle.model.specs.Parts.{timer}
+use Rattle.model.specs.Layout.{view}
+use Rattle.sound.specs.Asked.{timer_asked, timers_asked}
+use borrow.Author.Rules.{rules}
+use Rattle.sound.proofs.timers.timers_fit.Given as goal
+
+abbrev pub passes : State → ℕ → Bool
+passes s o = timer_asked (timer o s) s
+
+abbrev pub invariant-loop-o : goal.invariant-loop-o
+invariant-loop-o l = (l.o ≤ 8) × (every_below l.o (passes (view l.image)) ≡ true)
+
+abbrev pub decreases-loop-o : goal.decreases-loop-o
+decreases-loop-o l = 8 - l.o
