@@ -6,7 +6,6 @@ use Rattle.model.specs.Before.{view}
 use Rattle.soundness.specs.Whole.{ready_fits, waits_fit, lists_fit, records_fit}
 use Rattle.soundness.proofs.ObjectLaws.{semaphores_by_clauses, mutexes_by_clauses, flags_by_clauses}
 use Rattle.soundness.proofs.TimerLaws.{timers_by_clauses}
-use borrow.Author.Rules.{rules}
 use Rattle.soundness.proofs.records_fit.Goals as goal
 
 pub mutexes_fit-b-requires : goal.mutexes_fit-b-requires

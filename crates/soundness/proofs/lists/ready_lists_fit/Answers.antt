@@ -1,13 +1,6 @@
 use mathlib.Core.Path.{◌≡◌, refl, sym}
-use mathlib.Core.Bool.{Bool, true}
-use mathlib.Core.List.{List, []}
-use Prim.Native.Nat.{ℕ, ◌≤◌, ◌-◌}
-use borrow.Author.Rules.{rules}
-use borrow.Author.Tests.{not-true, not-false}
 use native.Mathlib.Omega.{arith}
-use lib.ListN.{get_or}
 use Rattle.sequences.specs.Lists.{every_below}
-use Rattle.soundness.specs.Lists.{list_fits}
 use Rattle.sequences.proofs.Stopping.{one_passes, one_fails}
 use Rattle.soundness.proofs.lists.ready_lists_fit.Invariants.{fits-at}
 use Rattle.soundness.proofs.lists.ready_lists_fit.Goals as goal

@@ -1,15 +1,11 @@
 -- `lists::ready_lists_fit` meets its contract: after p turns the first p lists have passed.
-use mathlib.Core.Path.{◌≡◌, refl, sym}
+use mathlib.Core.Path.{◌≡◌}
 use mathlib.Core.Bool.{Bool, true}
 use mathlib.Core.List.{List, []}
 use Prim.Native.Nat.{ℕ, ◌≤◌, ◌-◌}
-use borrow.Author.Rules.{rules}
-use borrow.Author.Tests.{not-true, not-false}
-use native.Mathlib.Omega.{arith}
 use lib.ListN.{get_or}
 use Rattle.sequences.specs.Lists.{every_below}
 use Rattle.soundness.specs.Lists.{list_fits}
-use Rattle.sequences.proofs.Stopping.{one_passes, one_fails}
 use Rattle.soundness.proofs.lists.ready_lists_fit.Given as goal
 
 abbrev pub fits-at : List (List ℕ) → List ℕ → ℕ → Bool

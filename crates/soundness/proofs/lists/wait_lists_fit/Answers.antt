@@ -1,14 +1,7 @@
 use mathlib.Core.Path.{◌≡◌, refl, sym}
-use mathlib.Core.Bool.{Bool, true}
-use mathlib.Core.List.{List}
-use Prim.Native.Nat.{ℕ, ◌<◌, ◌≤◌, ◌-◌}
-use borrow.Author.Rules.{rules}
-use borrow.Author.Tests.{not-true, not-false}
+use Prim.Native.Nat.{◌<◌}
 use native.Mathlib.Omega.{arith}
 use Rattle.sequences.specs.Lists.{every_below}
-use Rattle.model.specs.declared.tables.IdList.{IdList}
-use Rattle.model.specs.Before.{list_at}
-use Rattle.soundness.specs.Lists.{wait_list_fits}
 use Rattle.sequences.proofs.Stopping.{one_passes, one_fails}
 use Rattle.soundness.proofs.lists.wait_lists_fit.Invariants.{fits-at}
 use Rattle.soundness.proofs.lists.wait_lists_fit.Goals as goal

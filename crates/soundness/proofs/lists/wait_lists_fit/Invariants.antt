@@ -1,16 +1,12 @@
 -- `lists::wait_lists_fit` meets its contract: after j turns the first j lists have passed.
-use mathlib.Core.Path.{◌≡◌, refl, sym}
+use mathlib.Core.Path.{◌≡◌}
 use mathlib.Core.Bool.{Bool, true}
 use mathlib.Core.List.{List}
-use Prim.Native.Nat.{ℕ, ◌<◌, ◌≤◌, ◌-◌}
-use borrow.Author.Rules.{rules}
-use borrow.Author.Tests.{not-true, not-false}
-use native.Mathlib.Omega.{arith}
+use Prim.Native.Nat.{ℕ, ◌≤◌, ◌-◌}
 use Rattle.sequences.specs.Lists.{every_below}
 use Rattle.model.specs.declared.tables.IdList.{IdList}
 use Rattle.model.specs.Before.{list_at}
 use Rattle.soundness.specs.Lists.{wait_list_fits}
-use Rattle.sequences.proofs.Stopping.{one_passes, one_fails}
 use Rattle.soundness.proofs.lists.wait_lists_fit.Given as goal
 
 abbrev pub fits-at : List IdList → ℕ → Bool

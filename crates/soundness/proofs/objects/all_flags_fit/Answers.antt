@@ -1,17 +1,7 @@
 use mathlib.Core.Path.{◌≡◌, refl}
-use mathlib.Core.Bool.{Bool}
-use mathlib.Core.List.{List}
-use Prim.Native.Nat.{ℕ, ◌+◌, ◌-◌, ◌≤◌}
 use native.Mathlib.Omega.{arith}
-use borrow.Author.Rules.{rules}
-use lib.ListN.{get_or}
 use Rattle.sequences.specs.Lists.{every_below}
 use Rattle.sequences.proofs.Tests.{every_below_grown}
-use Rattle.model.specs.declared.tables.Flags.{Flags}
-use Rattle.model.specs.declared.tables.IdList.{IdList}
-use Rattle.model.specs.State.{absent_flags}
-use Rattle.model.specs.Before.{list_at}
-use Rattle.soundness.specs.Records.{flags_fit}
 use Rattle.soundness.proofs.objects.all_flags_fit.Invariants.{passes}
 use Rattle.soundness.proofs.objects.all_flags_fit.Goals as goal
 

@@ -1,15 +1,9 @@
 use mathlib.Core.Path.{◌≡◌, refl, ◌∙◌, ap}
-use mathlib.Core.Bool.{Bool}
-use mathlib.Core.List.{List}
-use Prim.Native.Nat.{ℕ, ◌+◌, ◌-◌, ◌%◌, ◌≤◌, ◌<◌}
+use Prim.Native.Nat.{◌+◌, ◌%◌, ◌<◌}
 use native.Mathlib.Omega.{arith}
-use borrow.Author.Rules.{rules}
 use lib.ListN.{get_or}
 use Rattle.sequences.specs.Lists.{every_below, among}
 use Rattle.sequences.proofs.Tests.{every_below-at, every_below_grown}
-use Rattle.model.specs.declared.tables.Thread.{Thread}
-use Rattle.model.specs.declared.tables.Mutex.{Mutex}
-use Rattle.model.specs.declared.tables.IdList.{IdList}
 use Rattle.model.specs.State.{absent_mutex}
 use Rattle.model.specs.Before.{ids_of, list_at, thread_at}
 use Rattle.soundness.specs.Lists.{wait_list_fits}

@@ -1,23 +1,17 @@
 -- `objects::mutexes_fit` meets its contract: after o turns the first o mutexes have been tested. An owner's record is read at owner % 16,
 -- which is the owner where it is in range; where it isn't, no record makes the mutex fit.
-use mathlib.Core.Path.{◌≡◌, refl, ◌∙◌, ap}
+use mathlib.Core.Path.{◌≡◌}
 use mathlib.Core.Bool.{Bool}
 use mathlib.Core.List.{List}
-use Prim.Native.Nat.{ℕ, ◌+◌, ◌-◌, ◌%◌, ◌≤◌, ◌<◌}
-use native.Mathlib.Omega.{arith}
-use borrow.Author.Rules.{rules}
+use Prim.Native.Nat.{ℕ, ◌+◌, ◌-◌, ◌≤◌}
 use lib.ListN.{get_or}
 use Rattle.sequences.specs.Lists.{every_below, among}
-use Rattle.sequences.proofs.Tests.{every_below-at, every_below_grown}
 use Rattle.model.specs.declared.tables.Thread.{Thread}
 use Rattle.model.specs.declared.tables.Mutex.{Mutex}
 use Rattle.model.specs.declared.tables.IdList.{IdList}
 use Rattle.model.specs.State.{absent_mutex}
 use Rattle.model.specs.Before.{ids_of, list_at, thread_at}
-use Rattle.soundness.specs.Lists.{wait_list_fits}
 use Rattle.soundness.specs.Records.{mutex_fits}
-use Rattle.soundness.proofs.Fitting.{fitting}
-use Rattle.soundness.proofs.OwnerLaws.{mutex_fits-in_range}
 use Rattle.soundness.proofs.objects.mutexes_fit.Given as goal
 
 abbrev pub passes : List Mutex → List Thread → List IdList → ℕ → Bool

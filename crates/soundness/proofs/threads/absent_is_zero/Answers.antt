@@ -1,5 +1,4 @@
 -- `threads::absent_is_zero` meets its contract: for a thread that is there nothing is asked.
-use borrow.Author.Rules.{rules}
 use borrow.Author.Tests.{eq-eqb, ne_eqb}
 use Rattle.soundness.proofs.threads.absent_is_zero.Goals as goal
 

@@ -1,7 +1,6 @@
 -- `threads::may_exceed` meets its contract: where the current priority is the base, both sides are true.
 use mathlib.Core.Path.{sym}
 use mathlib.Core.Bool.{or-true}
-use borrow.Author.Rules.{rules}
 use borrow.Author.Tests.{eq-eqb}
 use Rattle.table.specs.Owners.{owns_one_of}
 use Rattle.soundness.proofs.threads.may_exceed.Goals as goal

@@ -2,7 +2,6 @@
 use mathlib.Core.Path.{◌≡◌}
 use mathlib.Core.Bool.{Bool, not, ◌&&◌, ◌||◌, and_assoc, and-true}
 use Prim.Native.Nat.{ℕ}
-use borrow.Author.Rules.{rules}
 use lib.Dec.{eqb, leb, ltb}
 use Rattle.sequences.proofs.Positive.{not_positive}
 use Rattle.model.specs.declared.tables.Thread.{Thread}

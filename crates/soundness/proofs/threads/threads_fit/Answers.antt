@@ -1,20 +1,12 @@
 use mathlib.Core.Path.{◌≡◌, refl, sym, ◌∙◌}
-use mathlib.Core.Bool.{Bool, true, ◌||◌}
-use mathlib.Core.List.{List}
-use Prim.Native.Nat.{ℕ, ◌<◌, ◌-◌, ◌≤◌}
+use mathlib.Core.Bool.{Bool, ◌||◌}
+use Prim.Native.Nat.{ℕ, ◌<◌}
 use native.Mathlib.Omega.{arith}
-use borrow.Author.Rules.{rules}
-use borrow.Author.Tests.{not-true, not-false}
 use lib.Dec.{eqb}
-use lib.ListN.{get_or}
 use Rattle.sequences.specs.Lists.{every_below}
 use Rattle.model.specs.declared.tables.Thread.{Thread}
-use Rattle.model.specs.declared.tables.Mutex.{Mutex}
-use Rattle.table.specs.Owners.{owns_one_of}
-use Rattle.model.specs.Before.{thread_at}
 use Rattle.soundness.specs.Records.{thread_fits}
 use Rattle.sequences.proofs.Stopping.{one_passes, one_fails}
-use Rattle.soundness.proofs.threads.threads_fit.Invariants.{fits-at}
 use Rattle.soundness.proofs.threads.threads_fit.Goals as goal
 
 -- whether it owns a mutex makes no difference but where its current priority isn't its base

@@ -1,12 +1,8 @@
 -- `threads::threads_fit` meets its contract: after i turns the first i threads have passed.
-use mathlib.Core.Path.{◌≡◌, refl, sym, ◌∙◌}
-use mathlib.Core.Bool.{Bool, true, ◌||◌}
+use mathlib.Core.Path.{◌≡◌}
+use mathlib.Core.Bool.{Bool, true}
 use mathlib.Core.List.{List}
-use Prim.Native.Nat.{ℕ, ◌<◌, ◌-◌, ◌≤◌}
-use native.Mathlib.Omega.{arith}
-use borrow.Author.Rules.{rules}
-use borrow.Author.Tests.{not-true, not-false}
-use lib.Dec.{eqb}
+use Prim.Native.Nat.{ℕ, ◌-◌, ◌≤◌}
 use lib.ListN.{get_or}
 use Rattle.sequences.specs.Lists.{every_below}
 use Rattle.model.specs.declared.tables.Thread.{Thread}
@@ -14,7 +10,6 @@ use Rattle.model.specs.declared.tables.Mutex.{Mutex}
 use Rattle.table.specs.Owners.{owns_one_of}
 use Rattle.model.specs.Before.{thread_at}
 use Rattle.soundness.specs.Records.{thread_fits}
-use Rattle.sequences.proofs.Stopping.{one_passes, one_fails}
 use Rattle.soundness.proofs.threads.threads_fit.Given as goal
 
 abbrev pub fits-at : List Thread → List Mutex → List ℕ → List ℕ → List ℕ → ℕ → Bool

@@ -1,18 +1,8 @@
 use mathlib.Core.Path.{◌≡◌}
-use mathlib.Core.Bool.{Bool}
-use mathlib.Core.List.{List}
-use Prim.Native.Nat.{ℕ, ◌-◌, ◌≤◌}
 use native.Mathlib.Omega.{arith}
 use borrow.Author.Rules.{rules}
-use lib.ListN.{get_or}
 use Rattle.sequences.specs.Lists.{every_below}
 use Rattle.sequences.proofs.Tests.{every_below_grown}
-use Rattle.model.specs.declared.tables.Semaphore.{Semaphore}
-use Rattle.model.specs.declared.tables.Flags.{Flags}
-use Rattle.model.specs.declared.tables.Timer.{Timer}
-use Rattle.model.specs.State.{unused_timer}
-use Rattle.table.specs.Objects.{names_one_of}
-use Rattle.soundness.specs.Records.{timer_fits}
 use Rattle.soundness.proofs.timers.timers_fit.Invariants.{fits-at}
 use Rattle.soundness.proofs.timers.timers_fit.Goals as goal
 

@@ -1,16 +1,13 @@
 use mathlib.Core.Path.{◌≡◌, sym, ◌∙◌}
-use mathlib.Core.Bool.{◌&&◌}
-use mathlib.Core.List.{[], ◌∷◌}
-use Prim.Native.Nat.{◌≤◌, ◌<◌, ◌-◌}
+use Prim.Native.Nat.{◌≤◌, ◌<◌}
 use borrow.Author.Rules.{rules}
 use native.Mathlib.Omega.{arith}
 use lib.ListN.{length, get_or, take, length-take}
 use lib.Seq.{get_or-take}
 use Rattle.rows.proofs.Rows.{length_held}
 use Rattle.sequences.proofs.Slices.{take_grown}
-use Rattle.soundness.specs.Lists.{Tallied, list_asks}
 use Rattle.soundness.proofs.Fitting.{id-in_range, fitting}
-use Rattle.soundness.proofs.Asking.{rest_asks, asks_all, asks_step, asks_end}
+use Rattle.soundness.proofs.Asking.{asks_all, asks_step, asks_end}
 use Rattle.soundness.proofs.Counting.{tallied-empty, tallied-id, tallied-most}
 use Rattle.soundness.proofs.walks.walk_ids.Goals as goal
 

@@ -1,19 +1,12 @@
 -- `walks::walk_ids` meets its contract: after k turns the first k ids have been counted, and what has been found with what the list asks of
 -- the others is what it asks of all.
-use mathlib.Core.Path.{◌≡◌, sym, ◌∙◌}
+use mathlib.Core.Path.{◌≡◌}
 use mathlib.Core.Bool.{◌&&◌}
 use mathlib.Core.List.{[], ◌∷◌}
-use Prim.Native.Nat.{◌≤◌, ◌<◌, ◌-◌}
-use borrow.Author.Rules.{rules}
-use native.Mathlib.Omega.{arith}
-use lib.ListN.{length, get_or, take, length-take}
-use lib.Seq.{get_or-take}
-use Rattle.rows.proofs.Rows.{length_held}
-use Rattle.sequences.proofs.Slices.{take_grown}
+use Prim.Native.Nat.{◌≤◌, ◌-◌}
+use lib.ListN.{take}
 use Rattle.soundness.specs.Lists.{Tallied, list_asks}
-use Rattle.soundness.proofs.Fitting.{id-in_range, fitting}
-use Rattle.soundness.proofs.Asking.{rest_asks, asks_all, asks_step, asks_end}
-use Rattle.soundness.proofs.Counting.{tallied-empty, tallied-id, tallied-most}
+use Rattle.soundness.proofs.Asking.{rest_asks}
 use Rattle.soundness.proofs.walks.walk_ids.Given as goal
 
 abbrev pub invariant-loop-k : goal.invariant-loop-k

@@ -1,20 +1,18 @@
 use mathlib.Core.Path.{◌≡◌, ◌∙◌}
-use mathlib.Core.Bool.{Bool, true}
+use mathlib.Core.Bool.{true}
 use mathlib.Core.List.{List, []}
-use mathlib.Core.Logic.{inl, inr}
-use Prim.Native.Nat.{ℕ, ◌<◌, ◌≤◌, ◌-◌}
+use Prim.Native.Nat.{ℕ, ◌<◌, ◌≤◌}
 use borrow.Author.Rules.{rules}
 use native.Mathlib.Omega.{arith}
 use lib.ListN.{length, get_or, take, length-take}
 use Rattle.sequences.specs.Lists.{take_each, every_below}
 use Rattle.sequences.proofs.Tests.{every_below-at}
 use Rattle.sequences.proofs.Places.{take_each-at, length-take_each}
-use Rattle.model.specs.declared.tables.Thread.{Thread}
-use Rattle.soundness.specs.Lists.{list_fits, list_asks, of_ready}
+use Rattle.soundness.specs.Lists.{list_fits, of_ready}
 use Rattle.soundness.proofs.Fitting.{fitting}
 use Rattle.soundness.proofs.Asking.{nobody, nobody-asked}
 use Rattle.soundness.proofs.Counting.{up_to_more}
-use Rattle.soundness.proofs.Walking.{Walking, walking_none, walking_more, walking_past, walking_all}
+use Rattle.soundness.proofs.Walking.{walking_none, walking_more, walking_past, walking_all}
 use Rattle.soundness.proofs.walks.walk_ready.Invariants.{asks_at}
 use Rattle.soundness.proofs.walks.walk_ready.Goals as goal
 use Rattle.soundness.proofs.walks.walk_ready.Goals.{then-n-gt0, else-n-gt0}

@@ -1,20 +1,14 @@
 use mathlib.Core.Path.{◌≡◌}
-use mathlib.Core.Bool.{Bool}
-use mathlib.Core.List.{List, map}
-use mathlib.Core.Logic.{inl, inr}
-use Prim.Native.Nat.{ℕ, ◌+◌, ◌-◌, ◌≤◌}
+use Prim.Native.Nat.{◌+◌, ◌-◌}
 use borrow.Author.Rules.{rules}
 use native.Mathlib.Omega.{arith}
 use lib.ListN.{length}
-use lib.Seq.{slice}
 use Rattle.sequences.proofs.Tests.{every_below-at}
-use Rattle.model.specs.declared.tables.Thread.{Thread}
-use Rattle.model.specs.declared.tables.IdList.{IdList}
-use Rattle.model.specs.Before.{ids_of, list_at}
-use Rattle.soundness.specs.Lists.{wait_list_fits, list_asks}
+use Rattle.model.specs.Before.{list_at}
+use Rattle.soundness.specs.Lists.{wait_list_fits}
 use Rattle.soundness.proofs.Asking.{nobody, nobody-asked}
 use Rattle.soundness.proofs.Counting.{up_to_more}
-use Rattle.soundness.proofs.Walking.{Walking, walking_none, walking_all, part_length, part-more, part_past}
+use Rattle.soundness.proofs.Walking.{walking_none, walking_all, part_length, part-more, part_past}
 use Rattle.soundness.proofs.walks.walk_waits.Invariants.{asks_at}
 use Rattle.soundness.proofs.walks.walk_waits.Goals as goal
 use Rattle.soundness.proofs.walks.walk_waits.Goals.{then-l-gt0, else-l-gt0}

@@ -1,21 +1,13 @@
 -- `walks::walk_waits` meets its contract: after k turns the first k of the lists have been gone over.
-use mathlib.Core.Path.{◌≡◌}
 use mathlib.Core.Bool.{Bool}
 use mathlib.Core.List.{List, map}
-use mathlib.Core.Logic.{inl, inr}
 use Prim.Native.Nat.{ℕ, ◌+◌, ◌-◌, ◌≤◌}
-use borrow.Author.Rules.{rules}
-use native.Mathlib.Omega.{arith}
-use lib.ListN.{length}
 use lib.Seq.{slice}
-use Rattle.sequences.proofs.Tests.{every_below-at}
 use Rattle.model.specs.declared.tables.Thread.{Thread}
 use Rattle.model.specs.declared.tables.IdList.{IdList}
 use Rattle.model.specs.Before.{ids_of, list_at}
-use Rattle.soundness.specs.Lists.{wait_list_fits, list_asks}
-use Rattle.soundness.proofs.Asking.{nobody, nobody-asked}
-use Rattle.soundness.proofs.Counting.{up_to_more}
-use Rattle.soundness.proofs.Walking.{Walking, walking_none, walking_all, part_length, part-more, part_past}
+use Rattle.soundness.specs.Lists.{list_asks}
+use Rattle.soundness.proofs.Walking.{Walking}
 use Rattle.soundness.proofs.walks.walk_waits.Given as goal
 
 abbrev pub asks_at : ℕ → List Thread → List IdList → ℕ → ℕ → Bool
