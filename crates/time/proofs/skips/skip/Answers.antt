@@ -1,5 +1,5 @@
 -- The quantum is spent first; limits and timers are lists of their own, and their lengths stay.
-use Rattle.std.proofs.Common.{◌≡◌, ℕ, List, map, length, ap, ◌∙◌, ap₂, rules}
+use Rattle.std.proofs.Common.{◌≡◌, ℕ, List, map, length, ap, ◌∙◌, ap₂}
 use lib.ListN.{length-map}
 use Rattle.model.specs.declared.tables.Thread.{Thread}
 use Rattle.model.specs.declared.tables.Timer.{Timer}
@@ -12,8 +12,7 @@ use Rattle.table.specs.Orderly.{Does}
 use Rattle.table.proofs.Views.{table-threads, table-timers}
 use Rattle.theorems.specs.Skip.{limit_less, time_less, skip}
 use Rattle.theorems.specs.Leap.{spend}
-use Rattle.time.proofs.skips.skip.Statement.{statement}
-use Rattle.time.proofs.skips.skip.Tie as tie
+use Rattle.time.proofs.skips.skip.Goals as goal
 
 module _ (m : ℕ) where
   -- what a skip does beside the quantum
@@ -44,10 +43,6 @@ module _ (m : ℕ) where
         view = ap₂ (λ (a : List Thread) (b : List Timer). with_threads a (with_timers b (view u rows))) limits times ∙ ap lessened d.view;
       }
 
-returns : tie.Need-returns
+pub returns : goal.returns
 returns c rows w =
-    let spent = c.before.before.before.before in
-    skipped spent.before.args.m (spent.spend.ensures rows w) c.before.limits-less.ensures c.timers-less.ensures
-
-pub skip-spec : {M : Type 1} → statement M
-skip-spec = tie.close (tie.spec (λ c κs. search rules) (λ c κs. search rules) (λ c κs. search rules) returns)
+    skipped c.args.m (c.spend-u.ensures rows w) c.limits_less-waiting.ensures c.timers_less-running.ensures

@@ -3,8 +3,7 @@ use Rattle.std.proofs.Common.{ℕ, Bool, ◌&&◌, ltb, leb, sym, ap, ◌∙◌,
 use native.Mathlib.Decide.{ℕ_discrete}
 use Rattle.sequences.proofs.Tests as tests
 use Rattle.time.specs.Within.{Within}
-use Rattle.time.proofs.within.Statement.{statement}
-use Rattle.time.proofs.within.Tie as tie
+use Rattle.time.proofs.within.Goals as goal
 
 by_parts : (gap left : ℕ) → Within gap left (ltb 0 gap && leb gap left)
 by_parts gap left =
@@ -18,8 +17,5 @@ by_parts gap left =
           ];
     }
 
-returns : tie.Need-returns
+pub returns : goal.returns
 returns c = by_parts c.args.gap c.args.left
-
-pub within-spec : {M : Type 1} → statement M
-within-spec = tie.close (tie.spec returns)
