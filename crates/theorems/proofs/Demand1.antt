@@ -12,7 +12,7 @@ use Rattle.model.specs.declared.answers.Answer.TheVariants.{Unsound}
 use Rattle.model.specs.declared.requests.Request.{Request}
 use Rattle.model.specs.State.{State, nobody}
 use Rattle.model.specs.Sound.{sound}
-use Rattle.model.specs.Answers.{number, accepted, report}
+use Rattle.model.specs.Answers.{number, accepted}
 use Rattle.model.specs.Calls.{numbered, nobody_runs, scheduling_off}
 use Rattle.model.specs.Time.{next}
 use Rattle.model.specs.Kernel.{outcome, judge, answer, perform, next_state, call}

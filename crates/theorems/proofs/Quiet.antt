@@ -8,7 +8,7 @@ use borrow.Author.Tests.{eq-eqb}
 use lib.Dec.{eqb}
 use lib.ListN.{length}
 use Rattle.sequences.proofs.InOrder.{in_order-map}
-use Rattle.sequences.proofs.Tests.{left, neither}
+use Rattle.sequences.proofs.Tests.{neither}
 use Rattle.model.specs.declared.tables.Thread.{Thread}
 use Rattle.model.specs.declared.tables.Timer.{Timer}
 use Rattle.model.specs.State.{State, scheduling_on, absent_thread, unused_timer, thread_count, timer_count}

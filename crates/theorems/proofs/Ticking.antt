@@ -8,7 +8,7 @@ use native.Mathlib.Omega.{arith}
 use borrow.Author.Tests.{eqb-true, eqb-false, ltb-true, leb-true, le-leb}
 use lib.Dec.{eqb, leb, ltb}
 use lib.ListN.{length, get_or}
-use Rattle.sequences.specs.Lists.{count, count_all}
+use Rattle.sequences.specs.Lists.{count_all}
 use Rattle.sequences.specs.Steps.{in_order}
 use Rattle.sequences.proofs.Tests.{left, right}
 use Rattle.sequences.proofs.Bounds.{all_zero-at}

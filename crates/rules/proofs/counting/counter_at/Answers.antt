@@ -1,5 +1,4 @@
 use borrow.Author.Tests.{eq-eqb, ne_eqb}
-use borrow.Author.Rules.{rules}
 use Rattle.rules.proofs.counting.counter_at.Goals as goal
 
 pub returns-then-p-eq-NEVER : goal.returns-then-p-eq-NEVER

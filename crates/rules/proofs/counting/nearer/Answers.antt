@@ -1,6 +1,5 @@
 use native.Mathlib.Omega.{arith}
 use Rattle.rules.proofs.Nearness.{nearer-first, nearer-second}
-use borrow.Author.Rules.{rules}
 use Rattle.rules.proofs.counting.nearer.Goals as goal
 
 pub returns-then-place : goal.returns-then-place

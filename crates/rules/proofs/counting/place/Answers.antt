@@ -1,5 +1,4 @@
 use Rattle.rules.proofs.Nearness.{running-place}
-use borrow.Author.Rules.{rules}
 use Rattle.rules.proofs.counting.place.Goals as goal
 
 pub returns-then-a-eq0 : goal.returns-then-a-eq0

@@ -1,5 +1,4 @@
 -- By the answer's number.
-use borrow.Author.Rules.{rules}
 use Rattle.rules.proofs.numbers.is_accepted.Goals as goal
 
 pub returns : goal.returns

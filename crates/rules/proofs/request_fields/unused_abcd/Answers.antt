@@ -1,5 +1,4 @@
 -- One field more.
-use borrow.Author.Rules.{rules}
 use Rattle.rules.proofs.request_fields.unused_abcd.Goals as goal
 
 pub returns : goal.returns

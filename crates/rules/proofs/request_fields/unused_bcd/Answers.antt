@@ -1,5 +1,4 @@
 -- One field more.
-use borrow.Author.Rules.{rules}
 use Rattle.rules.proofs.request_fields.unused_bcd.Goals as goal
 
 pub returns : goal.returns

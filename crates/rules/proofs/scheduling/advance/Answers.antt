@@ -2,7 +2,6 @@
 use mathlib.Core.Bool.{and_assoc}
 use Rattle.model.specs.Ranges.{fits_32}
 use Rattle.model.specs.Calls.{unused_bcd, unused_id, answers}
-use borrow.Author.Rules.{rules}
 use Rattle.rules.proofs.scheduling.advance.Goals as goal
 
 pub returns : goal.returns

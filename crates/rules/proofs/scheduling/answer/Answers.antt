@@ -3,7 +3,6 @@ use native.Mathlib.Omega.{arith}
 use Rattle.model.specs.Calls.{calls, numbered}
 use Rattle.model.specs.Kernel.{judge}
 use Rattle.rules.proofs.ByNumber.{by_number}
-use borrow.Author.Rules.{rules}
 use Rattle.rules.proofs.scheduling.answer.Goals as goal
 
 pub returns-then-q-eq-SCHEDULING : goal.returns-then-q-eq-SCHEDULING
