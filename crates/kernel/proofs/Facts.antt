@@ -18,7 +18,6 @@ use Rattle.model.specs.Calls.{Call, answers, nobody_runs}
 use Rattle.model.specs.Before as layout
 use Rattle.model.specs.Before.{view, orderly, sound_table}
 use Rattle.placed.proofs.Standing.{standing_below}
-use Rattle.table.specs.Orderly as table
 use Rattle.table.specs.Orderly.{Whole}
 use Rattle.table.proofs.Stored.{sound-whole}
 use Rattle.theorems.specs.Lawful.{Steady}

@@ -6,7 +6,7 @@ use lib.ListN.{length, get_or}
 use Rattle.rows.proofs.Rows.{length_held, length_at}
 use Rattle.model.specs.declared.tables.Table.{Table}
 use Rattle.model.specs.State.{State}
-use Rattle.model.specs.Parts.{list, alter_thread, with_wait}
+use Rattle.model.specs.Parts.{alter_thread, with_wait}
 use Rattle.model.specs.Words.{leave, suspend}
 use Rattle.model.specs.Before as layout
 use Rattle.model.specs.Before.{view, list_at, thread_at}

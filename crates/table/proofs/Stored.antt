@@ -10,7 +10,7 @@ use lib.ListN.{length, take, drop, get_or, length-drop, length-map}
 use Rattle.sequences.specs.Lists.{every, every_below, all_zero, padded}
 use Rattle.sequences.proofs.Tests.{both, left, right, all_true-at, every-at, every-from, every_below-at, every_below-from}
 use Rattle.sequences.proofs.Padding.{zeros-all_zero, all_zero-zeros, take-padded, padded-take, take_each-padded, lengths_taken, rows-padded}
-use Rattle.rows.specs.Row.{Row, Rows, blanks}
+use Rattle.rows.specs.Row.{Row, blanks}
 use Rattle.rows.proofs.Rows.{length_held, lists-many}
 use Rattle.model.specs.declared.tables.IdList.{IdList}
 use Rattle.model.specs.declared.tables.Table.{Table}

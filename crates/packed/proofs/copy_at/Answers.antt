@@ -2,7 +2,6 @@ use mathlib.Core.Path.{refl}
 use native.Mathlib.Nat.{add-sub_cancel_left}
 use lib.ListN.{length}
 use Rattle.sequences.proofs.Lending.{put_back}
-use borrow.Author.Rules.{rules}
 use Rattle.packed.proofs.copy_at.Goals as goal
 
 pub returns : goal.returns

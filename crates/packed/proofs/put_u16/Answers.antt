@@ -1,5 +1,4 @@
 use Rattle.sequences.proofs.Numbers.{two_put}
-use borrow.Author.Rules.{rules}
 use Rattle.packed.proofs.put_u16.Goals as goal
 
 pub returns : goal.returns

@@ -1,7 +1,6 @@
 use native.Mathlib.Omega.{arith}
 use lib.ListN.{length-set}
 use Rattle.sequences.proofs.Numbers.{four_put}
-use borrow.Author.Rules.{rules}
 use Rattle.packed.proofs.put_u32.Goals as goal
 
 pub bounds-s-k-2 : goal.bounds-s-k-2

@@ -7,7 +7,6 @@ use lib.ListN.{get_or, take, drop, length-take}
 use Rattle.sequences.proofs.Searches.{first_at-most}
 use Rattle.links.specs.Cells.{first_with}
 use Rattle.links.proofs.Neighbours.{cell-there, cell-none}
-use borrow.Author.Rules.{rules}
 use Rattle.links.proofs.cells.before.Goals as goal
 
 most : (m from x : ℕ) (s : List ℕ) → first_with m from x s ≤ m

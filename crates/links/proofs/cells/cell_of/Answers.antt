@@ -1,6 +1,5 @@
 -- A link leads to the id below it.
 use Rattle.links.proofs.Neighbours.{cell-there}
-use borrow.Author.Rules.{rules}
 use Rattle.links.proofs.cells.cell_of.Goals as goal
 
 pub returns : goal.returns

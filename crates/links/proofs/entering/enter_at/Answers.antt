@@ -1,5 +1,4 @@
 -- Behind the cell that k ids lead up to.
-use borrow.Author.Rules.{rules}
 use Rattle.links.proofs.entering.enter_at.Goals as goal
 
 pub returns : goal.returns

@@ -5,7 +5,6 @@ use lib.ListN.{length}
 use Rattle.links.proofs.Entered.{behind-within, entered}
 use Rattle.links.proofs.Stores.{length-handed}
 use Rattle.links.proofs.Ways.{walk_reads, walk_within}
-use borrow.Author.Rules.{rules}
 use Rattle.links.proofs.entering.enter_behind.Goals as goal
 
 pub bounds-links-y : goal.bounds-links-y

@@ -3,7 +3,6 @@ use mathlib.Core.List.{[]}
 use lib.ListN.{length, get_or}
 use Rattle.sequences.specs.Links.{lists_in}
 use Rattle.links.proofs.Entered.{tail_cell, insert_last}
-use borrow.Author.Rules.{rules}
 use Rattle.links.proofs.entering.enter_tail.Goals as goal
 
 pub enter_behind-requires : goal.enter_behind-requires

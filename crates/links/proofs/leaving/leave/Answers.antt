@@ -1,7 +1,6 @@
 -- Where i stands on a list, the search tells the cells beside it; else the links are right as they are.
 use native.Mathlib.Omega.{arith}
 use Rattle.links.proofs.Neighbours.{searched, stayed}
-use borrow.Author.Rules.{rules}
 use Rattle.links.proofs.leaving.leave.Goals as goal
 
 pub take_out-requires : goal.take_out-requires

@@ -1,7 +1,6 @@
 -- The links of i tell the cells beside it.
 use native.Mathlib.Omega.{arith}
 use Rattle.links.proofs.Neighbours.{id-reads, told}
-use borrow.Author.Rules.{rules}
 use Rattle.links.proofs.leaving.leave_list.Goals as goal
 
 pub overflow_add-n-3 : goal.overflow_add-n-3

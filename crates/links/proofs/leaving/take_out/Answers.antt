@@ -4,7 +4,6 @@ use native.Mathlib.Omega.{arith}
 use lib.ListN.{length}
 use Rattle.links.proofs.Neighbours.{id-within, before-within, behind-within, left_by}
 use Rattle.links.proofs.Stores.{length-handed}
-use borrow.Author.Rules.{rules}
 use Rattle.links.proofs.leaving.take_out.Goals as goal
 
 pub untie-requires : goal.untie-requires

@@ -1,11 +1,9 @@
 use mathlib.Core.Path.{◌≡◌, sym, ap, ◌∙◌}
-use Prim.Native.Nat.{◌+◌, ◌-◌, ◌<◌}
+use Prim.Native.Nat.{◌+◌, ◌-◌}
 use native.Mathlib.Omega.{arith}
 use native.Mathlib.Decide.{ℕ_discrete}
-use borrow.Author.Tests.{not-true, not-false}
 use lib.ListN.{get_or, length-set}
-use Rattle.sequences.specs.Bytes.{part}
-use Rattle.links.specs.Noted.{leads_anew, Following}
+use Rattle.links.specs.Noted.{leads_anew}
 use Rattle.links.proofs.Followed.{
   refused,
   told,
@@ -23,7 +21,6 @@ use Rattle.links.proofs.Followed.{
   first_old,
   first_new,
 }
-use borrow.Author.Rules.{rules}
 use Rattle.links.proofs.noting.follow.Goals as goal
 
 pub is_new-requires : goal.is_new-requires

@@ -1,30 +1,9 @@
 -- What has been passed is the start of list j. Each fault that ends the walk is one that orderly links don't have.
-use mathlib.Core.Path.{◌≡◌, sym, ap, ◌∙◌}
+use mathlib.Core.Path.{◌≡◌}
 use Prim.Native.Nat.{◌+◌, ◌-◌, ◌<◌}
-use native.Mathlib.Omega.{arith}
-use native.Mathlib.Decide.{ℕ_discrete}
-use borrow.Author.Tests.{not-true, not-false}
-use lib.ListN.{get_or, length-set}
+use lib.ListN.{get_or}
 use Rattle.sequences.specs.Bytes.{part}
-use Rattle.links.specs.Noted.{leads_anew, Following}
-use Rattle.links.proofs.Followed.{
-  refused,
-  told,
-  part-size,
-  reads-ahead,
-  reads-back,
-  follow_start,
-  follow_on,
-  follow_end,
-  too_many,
-  unknown,
-  previous_wrong,
-  last_wrong,
-  newcomer,
-  first_old,
-  first_new,
-}
-use borrow.Author.Rules.{rules}
+use Rattle.links.specs.Noted.{Following}
 use Rattle.links.proofs.noting.follow.Given as goal
 
 abbrev pub invariant-loop-link : goal.invariant-loop-link

@@ -1,5 +1,4 @@
 -- Each return is the definition with the tests that led there.
-use borrow.Author.Rules.{rules}
 use native.Mathlib.Omega.{arith}
 use borrow.Author.Tests.{eq-eqb, ne_eqb, le-leb, lt-leb}
 use Rattle.links.specs.Noted.{leads_anew}

@@ -1,14 +1,12 @@
 use mathlib.Core.Path.{◌≡◌, sym, ◌∙◌, ap, subst}
 use mathlib.Core.Bool.{false≢true}
-use Prim.Native.Nat.{ℕ, ◌+◌, ◌-◌}
+use Prim.Native.Nat.{ℕ, ◌+◌}
 use native.Mathlib.Omega.{arith}
-use borrow.Author.Tests.{not-true, not-false}
 use lib.ListN.{length, length-replicate}
 use Rattle.sequences.specs.Bytes.{part}
 use Rattle.links.specs.Noted.{Through}
 use Rattle.links.proofs.Followed.{passes, part-size}
 use Rattle.links.proofs.AllFollowed.{through_start, through_noted}
-use borrow.Author.Rules.{rules}
 use Rattle.links.proofs.noting.note.Goals as goal
 
 pub loop-j-init : goal.loop-j-init

@@ -1,15 +1,7 @@
 -- After j turns the first j lists have been followed.
-use mathlib.Core.Path.{◌≡◌, sym, ◌∙◌, ap, subst}
-use mathlib.Core.Bool.{false≢true}
-use Prim.Native.Nat.{ℕ, ◌+◌, ◌-◌}
-use native.Mathlib.Omega.{arith}
-use borrow.Author.Tests.{not-true, not-false}
-use lib.ListN.{length, length-replicate}
+use Prim.Native.Nat.{◌+◌, ◌-◌}
 use Rattle.sequences.specs.Bytes.{part}
 use Rattle.links.specs.Noted.{Through}
-use Rattle.links.proofs.Followed.{passes, part-size}
-use Rattle.links.proofs.AllFollowed.{through_start, through_noted}
-use borrow.Author.Rules.{rules}
 use Rattle.links.proofs.noting.note.Given as goal
 
 abbrev pub invariant-loop-j : goal.invariant-loop-j

@@ -1,9 +1,6 @@
-use Prim.Native.Nat.{◌≤◌, ◌-◌}
 use mathlib.Core.Path.{◌≡◌}
 use native.Mathlib.Omega.{arith}
-use Rattle.links.specs.Walks.{Underway}
 use Rattle.links.proofs.Ways.{set_out, walk_reads, walk-next, walk_on}
-use borrow.Author.Rules.{rules}
 use Rattle.links.proofs.walking.cell_at.Goals as goal
 
 pub loop-h-init : goal.loop-h-init

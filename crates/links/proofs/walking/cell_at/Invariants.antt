@@ -1,10 +1,6 @@
 -- h ids lead up to the cell reached after h turns.
 use Prim.Native.Nat.{◌≤◌, ◌-◌}
-use mathlib.Core.Path.{◌≡◌}
-use native.Mathlib.Omega.{arith}
 use Rattle.links.specs.Walks.{Underway}
-use Rattle.links.proofs.Ways.{set_out, walk_reads, walk-next, walk_on}
-use borrow.Author.Rules.{rules}
 use Rattle.links.proofs.walking.cell_at.Given as goal
 
 abbrev pub invariant-loop-h : goal.invariant-loop-h

@@ -1,6 +1,5 @@
 -- The cell before a list leads to its first.
 use Rattle.links.proofs.Ways.{set_out, walk_link}
-use borrow.Author.Rules.{rules}
 use Rattle.links.proofs.walking.first.Goals as goal
 
 pub returns : goal.returns

@@ -8,7 +8,6 @@ use Rattle.sequences.specs.Links.{lists_in}
 use Rattle.sequences.proofs.Counts.{count_all-at}
 use Rattle.links.proofs.Entered.{last_is, shared_by}
 use Rattle.links.proofs.Ways.{set_out, walk_link}
-use borrow.Author.Rules.{rules}
 use Rattle.links.proofs.walking.is_shared.Goals as goal
 
 pub returns : goal.returns

@@ -1,11 +1,6 @@
-use Prim.Native.Nat.{◌+◌}
 use mathlib.Core.Path.{◌∙◌}
 use native.Mathlib.Omega.{arith}
-use lib.ListN.{length, drop}
-use Rattle.sequences.specs.Links.{along, leads, lists_in}
-use Rattle.links.specs.Walks.{Together}
 use Rattle.links.proofs.Standing.{together_start, together_on, together_closer, together_end}
-use borrow.Author.Rules.{rules}
 use Rattle.links.proofs.walking.list_of.Goals as goal
 
 pub loop-x-init : goal.loop-x-init

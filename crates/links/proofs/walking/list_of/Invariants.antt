@@ -1,12 +1,8 @@
 -- x stands where i stands, until x is the first.
 use Prim.Native.Nat.{◌+◌}
-use mathlib.Core.Path.{◌∙◌}
-use native.Mathlib.Omega.{arith}
 use lib.ListN.{length, drop}
 use Rattle.sequences.specs.Links.{along, leads, lists_in}
 use Rattle.links.specs.Walks.{Together}
-use Rattle.links.proofs.Standing.{together_start, together_on, together_closer, together_end}
-use borrow.Author.Rules.{rules}
 use Rattle.links.proofs.walking.list_of.Given as goal
 
 abbrev pub invariant-loop-x : goal.invariant-loop-x

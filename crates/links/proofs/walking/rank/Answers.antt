@@ -1,13 +1,6 @@
-use Prim.Native.Nat.{◌+◌, ◌*◌, ◌-◌}
-use mathlib.Core.List.{[]}
 use native.Mathlib.Omega.{arith}
 use borrow.Author.Tests.{lt-ltb, le-ltb}
-use lib.Dec.{ltb}
-use lib.ListN.{length, get_or}
-use Rattle.sequences.specs.Links.{lists_in}
-use Rattle.links.specs.Walks.{Ranking}
 use Rattle.links.proofs.Ways.{set_out, walk_reads, walk_known, walk_count, walk_closer, rank-on, rank_hit, rank-end}
-use borrow.Author.Rules.{rules}
 use Rattle.links.proofs.walking.rank.Goals as goal
 
 pub loop-y-init : goal.loop-y-init

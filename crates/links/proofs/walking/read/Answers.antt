@@ -1,12 +1,6 @@
-use Prim.Native.Nat.{◌-◌}
 use mathlib.Core.Path.{refl, sym, ◌∙◌}
-use mathlib.Core.List.{[]}
 use native.Mathlib.Omega.{arith}
-use lib.ListN.{length, get_or}
-use Rattle.sequences.specs.Links.{lists_in}
-use Rattle.links.specs.Walks.{Reading}
 use Rattle.links.proofs.Ways.{set_out, walk_reads, walk_known, walk_count, walk_closer, read_on, read_end}
-use borrow.Author.Rules.{rules}
 use Rattle.links.proofs.walking.read.Goals as goal
 
 pub loop-y-init : goal.loop-y-init

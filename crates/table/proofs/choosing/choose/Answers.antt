@@ -16,7 +16,6 @@ use Rattle.model.specs.Before.{view}
 use Rattle.model.specs.Words.{choose}
 use Rattle.table.specs.Orderly.{Orderly, Meets, Does}
 use Rattle.table.proofs.Views.{table-chosen, changed_thread, stored_chosen, untouched, then, does, same_word}
-use borrow.Author.Rules.{rules}
 use Rattle.table.proofs.choosing.choose.Goals as goal
 
 -- n is the choice; u is the table with n's quantum renewed

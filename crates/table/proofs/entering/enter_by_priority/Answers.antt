@@ -3,7 +3,6 @@ use mathlib.Core.List.{[]}
 use Rattle.sequences.specs.Lists.{insert_at}
 use Rattle.model.specs.Words.{rank, enter_by_priority}
 use Rattle.table.proofs.Views.{stored_list, meets_word, rank-at-most}
-use borrow.Author.Rules.{rules}
 use Rattle.table.proofs.entering.enter_by_priority.Goals as goal
 
 pub with_at-grown-requires : goal.with_at-grown-requires

@@ -1,11 +1,10 @@
 -- The row of the current priority stored with the id behind all others, and its length with it.
 use native.Mathlib.Omega.{arith}
 use Rattle.table.proofs.Ready.{entered_ready}
-use borrow.Author.Rules.{rules}
 use Rattle.table.proofs.entering.enter_ready.Goals as goal
 
 pub push-grown-requires : goal.push-grown-requires
-push-grown-requires c = let all = (rw c.thread-x.ensures (c.requires.orderly.ready, (c.requires.i_bound.1, c.requires.i_bound.2))) in record { rows = all.0; p_bound = all.1 }
+push-grown-requires c = record { rows = c.requires.orderly.ready; p_bound = (rw c.thread-x.ensures c.requires.i_bound.1, rw c.thread-x.ensures c.requires.i_bound.2) }
 
 pub bounds-lengths-p : goal.bounds-lengths-p
 bounds-lengths-p c = rw c.thread-x.ensures c.requires.i_bound.1

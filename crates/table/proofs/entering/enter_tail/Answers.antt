@@ -2,7 +2,6 @@
 use Rattle.sequences.specs.Lists.{snoc}
 use Rattle.model.specs.Words.{enter_tail}
 use Rattle.table.proofs.Views.{stored_list}
-use borrow.Author.Rules.{rules}
 use Rattle.table.proofs.entering.enter_tail.Goals as goal
 
 pub with_tail-grown-requires : goal.with_tail-grown-requires

@@ -1,17 +1,12 @@
 -- The search goes place by place: what it finds is found from place k on.
 use Rattle.model.specs.Before.{thread_at}
-use mathlib.Core.Path.{◌≡◌, sym, ◌∙◌}
+use mathlib.Core.Path.{◌≡◌}
 use mathlib.Core.Bool.{Bool}
 use mathlib.Core.List.{List}
-use Prim.Native.Nat.{ℕ, ◌<◌, ◌≤◌, ◌+◌, ◌-◌}
-use native.Mathlib.Omega.{arith}
-use borrow.Author.Rules.{rules}
-use borrow.Author.Tests.{lt-ltb, le-ltb}
+use Prim.Native.Nat.{ℕ, ◌≤◌, ◌+◌, ◌-◌}
 use lib.Dec.{ltb}
-use lib.ListN.{length, take, drop}
-use lib.Seq.{get_or-take, length-take-le}
+use lib.ListN.{take, drop}
 use Rattle.sequences.specs.Lists.{first_at}
-use Rattle.sequences.proofs.Searches.{first_step, first_hit, first-end}
 use Rattle.model.specs.declared.tables.Thread.{Thread}
 use Rattle.table.proofs.entering.place_below.Given as goal
 

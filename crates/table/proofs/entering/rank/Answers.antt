@@ -3,7 +3,6 @@ use mathlib.Core.Path.{◌∙◌}
 use Rattle.model.specs.Before.{view}
 use Rattle.model.specs.Words.{rank}
 use Rattle.table.proofs.Views.{list-view}
-use borrow.Author.Rules.{rules}
 use Rattle.table.proofs.entering.rank.Goals as goal
 
 pub place_below-requires : goal.place_below-requires

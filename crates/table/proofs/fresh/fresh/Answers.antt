@@ -1,5 +1,4 @@
 -- The literal is the model's fresh state laid out, by computation.
-use borrow.Author.Rules.{rules}
 use Rattle.model.specs.State.{fresh}
 use Rattle.model.specs.Before.{fresh_table, lay_table}
 use Rattle.table.proofs.fresh.fresh.Goals as goal

@@ -8,7 +8,6 @@ use Rattle.model.specs.Words.{leave}
 use Rattle.model.specs.Before.{view}
 use Rattle.placed.proofs.Leaving.{leave-from_other}
 use Rattle.table.proofs.Views.{does, same_word}
-use borrow.Author.Rules.{rules}
 use Rattle.table.proofs.leaving.leave.Goals as goal
 
 pub leave_ready-requires : goal.leave_ready-requires

@@ -1,7 +1,6 @@
 -- One list stored without the id.
 use Rattle.sequences.specs.Lists.{without}
 use Rattle.table.proofs.Views.{stored_list}
-use borrow.Author.Rules.{rules}
 use Rattle.table.proofs.leaving.leave_list.Goals as goal
 
 pub without-shrunk-requires : goal.without-shrunk-requires

@@ -11,7 +11,6 @@ use Rattle.model.specs.State.{State}
 use Rattle.model.specs.Parts.{with_waits}
 use Rattle.model.specs.Before.{view, ids_of, no_ids}
 use Rattle.table.proofs.Views.{meets_word, untouched}
-use borrow.Author.Rules.{rules}
 use Rattle.table.proofs.leaving.leave_other.Goals as goal
 
 pub leave_list-requires : goal.leave_list-requires

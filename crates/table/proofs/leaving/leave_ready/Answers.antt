@@ -2,7 +2,6 @@
 use Prim.Native.Nat.{◌<◌}
 use native.Mathlib.Omega.{arith}
 use Rattle.table.proofs.Ready.{priority_below, place_found, left-ready}
-use borrow.Author.Rules.{rules}
 use Rattle.table.proofs.leaving.leave_ready.Goals as goal
 use Rattle.table.proofs.leaving.leave_ready.Goals.{After-remove-shrunk}
 

@@ -1,6 +1,5 @@
 -- A search that ends before the end has found.
 use Rattle.table.proofs.Finds.{found_among}
-use borrow.Author.Rules.{rules}
 use Rattle.table.proofs.lists.holds_id.Goals as goal
 
 pub returns : goal.returns

@@ -1,6 +1,5 @@
 -- The first place found is the only one.
 use Rattle.table.proofs.Finds.{removed_first, kept-without}
-use borrow.Author.Rules.{rules}
 use Rattle.table.proofs.lists.without.Goals as goal
 
 pub returns-then-k-n : goal.returns-then-k-n

@@ -6,7 +6,6 @@ use Prim.Native.Nat.{ℕ, zero, suc}
 use Rattle.model.specs.declared.tables.Semaphore.{Semaphore}
 use Rattle.model.specs.declared.tables.Flags.{Flags}
 use Rattle.table.specs.Objects.{names_one_of}
-use borrow.Author.Rules.{rules}
 use Rattle.table.proofs.objects.names_object.Goals as goal
 
 others-name-nothing : (semaphores : List Semaphore) (flags : List Flags) (kind object : ℕ) → (kind ≡ 1 → ⊥) → (kind ≡ 2 → ⊥)

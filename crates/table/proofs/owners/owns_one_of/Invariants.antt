@@ -3,15 +3,11 @@ use mathlib.Core.Path.{◌≡◌}
 use mathlib.Core.Bool.{Bool, ◌&&◌}
 use mathlib.Core.List.{List}
 use Prim.Native.Nat.{ℕ, ◌-◌, ◌≤◌}
-use native.Mathlib.Omega.{arith}
-use borrow.Author.Rules.{rules}
 use lib.Dec.{eqb, ltb}
 use lib.ListN.{get_or}
 use Rattle.sequences.specs.Lists.{some_below}
-use Rattle.sequences.proofs.Tests.{some_below_grown}
 use Rattle.model.specs.declared.tables.Mutex.{Mutex}
 use Rattle.model.specs.State.{absent_mutex}
-use Rattle.table.specs.Owners.{owns_one_of}
 use Rattle.table.proofs.owners.owns_one_of.Given as goal
 
 abbrev pub owned_by : List Mutex → ℕ → ℕ → Bool

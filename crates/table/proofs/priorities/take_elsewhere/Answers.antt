@@ -15,7 +15,6 @@ use Rattle.table.proofs.Retaking.{retaken_off, re_enter_waiting, re_enter_other}
 use Rattle.table.proofs.OffList.{once-on, left-list}
 use Rattle.table.proofs.Rooms.{ranked, list-room}
 use Rattle.table.proofs.Views.{does, and_then, same_word}
-use borrow.Author.Rules.{rules}
 use Rattle.table.proofs.priorities.take_elsewhere.Goals as goal
 use Rattle.table.proofs.priorities.take_elsewhere.Goals.{After-leave_list-u, After-list_of-j}
 

@@ -7,7 +7,6 @@ use Rattle.model.specs.Words.{re_enter, take_priority}
 use Rattle.model.specs.Before.{Rows, view}
 use Rattle.table.specs.Orderly.{Does}
 use Rattle.table.proofs.Views.{same_word}
-use borrow.Author.Rules.{rules}
 use Rattle.table.proofs.priorities.take_priority.Goals as goal
 use Rattle.table.proofs.priorities.take_priority.Goals.{Else-x-p}
 

@@ -3,7 +3,6 @@
 use mathlib.Core.Path.{◌≡◌, refl, sym}
 use Prim.Native.Nat.{◌<◌, ◌-◌}
 use native.Mathlib.Omega.{arith}
-use borrow.Author.Rules.{rules}
 use lib.ListN.{get_or, set}
 use lib.Seq.{get_or-set_same}
 use Rattle.model.specs.declared.tables.Table.{Table}
@@ -41,13 +40,13 @@ abbrev start : After-remove-shrunk → Start
 start c = c.before.before.before.before.before.before
 
 leaves : (c : After-remove-shrunk) → Does (start c).args.t (start c).args.rows.now (leave (start c).args.i) (left (start c)) c.remove-shrunk.result
-leaves c = let s = start c in left-ready {x = read s} refl s.pre.0 s.pre.1.1 c.find-at.ensures c.remove-shrunk.ensures
+leaves c = let s = start c in left-ready {x = read s} refl s.requires.given s.requires.p_bound.1 c.find-at.ensures c.remove-shrunk.ensures
 
 changes : (c : After-remove-shrunk) → Meets (left (start c)) (alter_thread (start c).args.i (with_current (start c).args.p)) (changed (start c))
 changes c = let s = start c in changed_thread (left s) (leaves c).order.table s.args.i (with_current s.args.p)
 
 off : (c : After-remove-shrunk) → Off (changed (start c)) c.remove-shrunk.result (start c).args.i
-off c = let s = start c in retaken_off s.pre.0 s.args.p s.pre.1.0 (leaves c) (changes c)
+off c = let s = start c in retaken_off s.requires.given s.args.p s.requires.p_bound.0 (leaves c) (changes c)
 
 -- the record is found where it was written
 found : (s : Start) → written s ≡ thread_at (changed s).threads s.args.i
@@ -60,13 +59,13 @@ pub remove-shrunk-requires : goal.remove-shrunk-requires
 remove-shrunk-requires c = record { rows = c.requires.given.whole.order.ready; p_bound = (below (goal.at.remove-shrunk-requires c).Start, place_found {x = read (goal.at.remove-shrunk-requires c).Start} refl c.requires.given c.requires.p_bound.1 c.find-at.ensures) }
 
 pub overflow_sub-lengths : goal.overflow_sub-lengths
-overflow_sub-lengths c = let s = start c in omega (arith, place_found {x = read s} refl s.pre.0 s.pre.1.1 c.find-at.ensures)
+overflow_sub-lengths c = let s = start c in omega (arith, place_found {x = read s} refl s.requires.given s.requires.p_bound.1 c.find-at.ensures)
 
 pub push-grown-requires : goal.push-grown-requires
-push-grown-requires c = let s = start c in record { rows = (leaves c).order.ready; p_bound = (s.pre.1.0, row_room (off c) s.args.p s.pre.1.0) }
+push-grown-requires c = let s = start c in record { rows = (leaves c).order.ready; p_bound = (s.requires.p_bound.0, row_room (off c) s.args.p s.requires.p_bound.0) }
 
 pub overflow_add-lengths : goal.overflow_add-lengths
-overflow_add-lengths c = let s = start (goal.at.overflow_add-lengths c).After-remove-shrunk in omega (arith, row_room (off (goal.at.overflow_add-lengths c).After-remove-shrunk) s.args.p s.pre.1.0)
+overflow_add-lengths c = let s = start (goal.at.overflow_add-lengths c).After-remove-shrunk in omega (arith, row_room (off (goal.at.overflow_add-lengths c).After-remove-shrunk) s.args.p s.requires.p_bound.0)
 
 pub returns : goal.returns
 returns c =
@@ -74,7 +73,7 @@ returns c =
     let enters = entered_ready {x = written s} (found s) (off (goal.at.returns c).After-remove-shrunk).given.whole.order c.push-grown.ensures in
     same_word (λ (x : State). re_enter s.args.i (alter_thread s.args.i (with_current s.args.p) x))
     (and_then (and_then (leaves (goal.at.returns c).After-remove-shrunk) (does c.remove-shrunk.result (leaves (goal.at.returns c).After-remove-shrunk).order (changes (goal.at.returns c).After-remove-shrunk))) enters)
-    (re_enter-ready s.args.i s.args.p (view s.args.t s.args.rows.now) s.pre.1.1)
+    (re_enter-ready s.args.i s.args.p (view s.args.t s.args.rows.now) s.requires.p_bound.1)
 
 pub overflow_cast-old : goal.overflow_cast-old
 overflow_cast-old c = omega (arith, below (goal.at.overflow_cast-old c).Start)
@@ -86,7 +85,7 @@ pub bounds-lengths-old-2 : goal.bounds-lengths-old-2
 bounds-lengths-old-2 c = below (start c)
 
 pub bounds-lengths-new : goal.bounds-lengths-new
-bounds-lengths-new c = (start (goal.at.bounds-lengths-new c).After-remove-shrunk).requires.1.0
+bounds-lengths-new c = (start (goal.at.bounds-lengths-new c).After-remove-shrunk).requires.p_bound.0
 
 pub bounds-lengths-new-2 : goal.bounds-lengths-new-2
-bounds-lengths-new-2 c = (start (goal.at.bounds-lengths-new-2 c).After-remove-shrunk).requires.1.0
+bounds-lengths-new-2 c = (start (goal.at.bounds-lengths-new-2 c).After-remove-shrunk).requires.p_bound.0

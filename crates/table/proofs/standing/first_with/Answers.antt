@@ -1,9 +1,8 @@
 use mathlib.Core.Path.{◌≡◌, sym, ◌∙◌, ap}
 use mathlib.Core.List.{[], map}
-use Prim.Native.Nat.{◌≤◌, ◌+◌, ◌-◌}
 use native.Mathlib.Omega.{arith}
-use lib.ListN.{length, drop, length-map, get_or-map}
-use Rattle.sequences.specs.Lists.{among, first_at}
+use lib.ListN.{length, length-map, get_or-map}
+use Rattle.sequences.specs.Lists.{among}
 use Rattle.sequences.proofs.Searches.{first_step, first_hit, first-end}
 use Rattle.model.specs.Before.{ids_of, no_ids}
 use borrow.Author.Rules.{rules}

@@ -1,13 +1,10 @@
 -- The search goes list by list: what it finds is found from list j on.
-use mathlib.Core.Path.{◌≡◌, sym, ◌∙◌, ap}
-use mathlib.Core.List.{[], map}
+use mathlib.Core.Path.{◌≡◌}
+use mathlib.Core.List.{map}
 use Prim.Native.Nat.{◌≤◌, ◌+◌, ◌-◌}
-use native.Mathlib.Omega.{arith}
-use lib.ListN.{length, drop, length-map, get_or-map}
+use lib.ListN.{drop}
 use Rattle.sequences.specs.Lists.{among, first_at}
-use Rattle.sequences.proofs.Searches.{first_step, first_hit, first-end}
-use Rattle.model.specs.Before.{ids_of, no_ids}
-use borrow.Author.Rules.{rules}
+use Rattle.model.specs.Before.{ids_of}
 use Rattle.table.proofs.standing.first_with.Given as goal
 
 abbrev pub invariant-loop-j : goal.invariant-loop-j

@@ -1,7 +1,6 @@
 -- What is found in the list of the current priority tells of all ready lists.
 use native.Mathlib.Omega.{arith}
 use Rattle.table.proofs.Ready.{priority_below, found_ready}
-use borrow.Author.Rules.{rules}
 use Rattle.table.proofs.standing.is_ready.Goals as goal
 
 pub find-k-requires : goal.find-k-requires

@@ -5,7 +5,6 @@ use Prim.Native.Nat.{ℕ}
 use native.Mathlib.Omega.{arith}
 use Rattle.sequences.specs.Lists.{among}
 use Rattle.table.proofs.Views.{list-view}
-use borrow.Author.Rules.{rules}
 use Rattle.table.proofs.standing.is_stopped.Goals as goal
 
 pub holds_id-requires : goal.holds_id-requires

@@ -5,7 +5,6 @@ use lib.Dec.{ltb}
 use lib.ListN.{length}
 use Rattle.rows.proofs.Rows.{length_held}
 use Rattle.table.proofs.Views.{list-view}
-use borrow.Author.Rules.{rules}
 use Rattle.table.proofs.standing.waited_for.Goals as goal
 
 pub returns : goal.returns

@@ -1,6 +1,5 @@
 -- One record stored.
 use Rattle.table.proofs.Views.{stored_semaphore}
-use borrow.Author.Rules.{rules}
 use Rattle.table.proofs.storing.with_semaphore.Goals as goal
 
 pub returns : goal.returns

@@ -1,7 +1,6 @@
 -- The record that is stored is the one that was read, changed.
 use Rattle.model.specs.Parts.{with_result}
 use Rattle.table.proofs.Rewriting.{rewritten_thread}
-use borrow.Author.Rules.{rules}
 use Rattle.table.proofs.threads.with_result.Goals as goal
 
 pub returns : goal.returns

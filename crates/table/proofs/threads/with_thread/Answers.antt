@@ -1,6 +1,5 @@
 -- One record stored.
 use Rattle.table.proofs.Views.{stored_thread}
-use borrow.Author.Rules.{rules}
 use Rattle.table.proofs.threads.with_thread.Goals as goal
 
 pub returns : goal.returns

@@ -2,7 +2,6 @@
 use Rattle.model.specs.Words.{become_ready}
 use Rattle.table.proofs.Rooms.{left-off, priority_in_range, row_room}
 use Rattle.table.proofs.Views.{and_then}
-use borrow.Author.Rules.{rules}
 use Rattle.table.proofs.waking.become_ready.Goals as goal
 
 pub enter_ready-requires : goal.enter_ready-requires

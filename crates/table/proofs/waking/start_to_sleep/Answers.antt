@@ -3,7 +3,6 @@ use native.Mathlib.Omega.{arith}
 use Rattle.model.specs.Words.{start_to_sleep}
 use Rattle.table.proofs.Rooms.{suspended_off, list-room}
 use Rattle.table.proofs.Views.{does, and_then}
-use borrow.Author.Rules.{rules}
 use Rattle.table.proofs.waking.start_to_sleep.Goals as goal
 
 pub enter_tail-requires : goal.enter_tail-requires
@@ -14,4 +13,4 @@ pub returns : goal.returns
 unfolding start_to_sleep
 returns c =
     let w = suspended_off c.requires c.args.span 0 0 c.suspend-u.ensures in
-    and_then c.suspend-u.ensures (does c.suspend-u.new.? w.given.whole.order c.enter_tail.ensures)
+    and_then c.suspend-u.ensures (does c.suspend-u.new.rows w.given.whole.order c.enter_tail.ensures)

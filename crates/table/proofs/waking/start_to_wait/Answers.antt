@@ -18,7 +18,6 @@ use Rattle.table.proofs.Ready.{found, priority_below, ready_if_found, place_foun
 use Rattle.table.proofs.Rooms.{left-off, list-room, ranked}
 use Rattle.table.proofs.Views.{table-lengths, does, and_then}
 use Rattle.table.proofs.Written.{written, read_again, writes, written_given}
-use borrow.Author.Rules.{rules}
 use Rattle.table.proofs.waking.start_to_wait.Goals as goal
 use Rattle.table.proofs.waking.start_to_wait.Goals.{After-find-at, Else-at-lengths}
 

@@ -6,7 +6,6 @@ use Rattle.model.specs.Before.{view}
 use Rattle.placed.proofs.Standing.{alter-placed}
 use Rattle.table.proofs.Rooms.{given-after}
 use Rattle.table.proofs.Views.{does, and_then}
-use borrow.Author.Rules.{rules}
 use Rattle.table.proofs.waking.suspend.Goals as goal
 
 pub leave-requires : goal.leave-requires

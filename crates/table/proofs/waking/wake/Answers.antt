@@ -20,7 +20,6 @@ use Rattle.table.proofs.Ready.{priority_below, entered_ready}
 use Rattle.table.proofs.Rooms.{Off, left-off, row_room}
 use Rattle.table.proofs.Views.{table-waits, table-lengths, stored_list, and_then}
 use Rattle.table.proofs.Written.{written, read_again, writes, written_given}
-use borrow.Author.Rules.{rules}
 use Rattle.table.proofs.waking.wake.Goals as goal
 use Rattle.table.proofs.waking.wake.Goals.{After-without-shrunk, Else-j-eq-LIST_COUNT}
 

@@ -1,0 +1,11 @@
+-- After i turns the bytes of the first i semaphores stand in front; a turn puts those of the next behind them.
+use Prim.Native.Nat.{◌-◌}
+use Rattle.sequences.proofs.InTurn.{Written}
+use Rattle.image.specs.Image.{semaphore_bytes}
+use Rattle.image.proofs.writing.put_semaphores.Given as goal
+
+abbrev pub invariant-loop-i : goal.invariant-loop-i
+invariant-loop-i l = Written semaphore_bytes 5 8 l.all l.i l.dst
+
+abbrev pub decreases-loop-i : goal.decreases-loop-i
+decreases-loop-i l = 8 - l.i

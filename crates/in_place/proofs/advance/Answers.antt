@@ -1,0 +1,6 @@
+-- The call of that request.
+use borrow.Author.Rules.{rules}
+use Rattle.in_place.proofs.advance.Goals as goal
+
+pub returns : goal.returns
+returns c = record { report = c.call.ensures.report; image = c.call.ensures.image }

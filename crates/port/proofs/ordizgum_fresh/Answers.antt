@@ -1,0 +1,22 @@
+-- By the length: a wrong one leaves every byte, and into the right one the fresh table is written.
+use mathlib.Core.Path.{◌≡◌, refl, ◌∙◌, ap₂}
+use mathlib.Core.Bool.{true, false}
+use lib.ListN.{length}
+use borrow.Author.Tests.{eq-eqb, ne_eqb}
+use Rattle.image.specs.Image.{image_of}
+use Rattle.port.specs.Port.{right_length, fresh_after}
+use Rattle.port.proofs.ordizgum_fresh.Goals as goal
+
+pub returns-then-image-ne-IMAGE_LENGTH : goal.returns-then-image-ne-IMAGE_LENGTH
+unfolding fresh_after
+returns-then-image-ne-IMAGE_LENGTH c =
+    let s = c.args.image.now in
+    let wrong : right_length s ≡ false = ne_eqb (length s) 920 c.if-image-ne-IMAGE_LENGTH.true in
+    record { answer = rw wrong refl; image = rw wrong refl }
+
+pub returns : goal.returns
+unfolding fresh_after
+returns c =
+    let s = c.args.image.now in
+    let fits : right_length s ≡ true = eq-eqb (length s) 920 c.if-image-ne-IMAGE_LENGTH.false in
+    record { answer = rw fits refl; image = rw fits (c.write.ensures ∙ ap₂ image_of c.fresh.ensures c.fresh_rows.ensures) }

@@ -1,0 +1,16 @@
+-- What is marked is what the model has as due.
+use Rattle.model.specs.Calls.{answers}
+use Rattle.model.specs.Before.{view}
+use Rattle.refusals.proofs.mutexes.release.Goals as goal
+
+pub returns : goal.returns
+unfolding answers view
+returns c rows =
+    rw (
+      c.first.ensures,
+      c.nothing-due.ensures,
+      c.owns-owns.ensures,
+      c.mutex-x.ensures,
+      c.unused_abcd-unused.ensures,
+      c.mutex_there-there.ensures,
+    )

@@ -1,0 +1,10 @@
+-- From wake-up to wake-up while the next one is within what is left; then the rest is quiet.
+use Rattle.model.specs.Before.{view}
+use Rattle.time.proofs.Passing.{Passing}
+use Rattle.time.proofs.pass.Given as goal
+
+abbrev pub invariant-loop-left : goal.invariant-loop-left
+invariant-loop-left l = Passing (view l.t l.initial.rows) l.n l.u l.rows l.left l.woken l.gap
+
+abbrev pub decreases-loop-left : goal.decreases-loop-left
+decreases-loop-left l = l.left

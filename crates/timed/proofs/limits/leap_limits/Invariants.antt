@@ -1,0 +1,17 @@
+-- Thread by thread: each turn, by either way, is the model's.
+use Rattle.std.proofs.Common.{ℕ, ◌-◌, min, sym, ap, ◌∙◌, inl, inr, arith, rules}
+use Rattle.model.specs.State.{absent_thread}
+use Rattle.model.specs.Layout.{view}
+use Rattle.layout.proofs.Viewed.{many-threads}
+use Rattle.theorems.specs.Leap.{limit_leap}
+use Rattle.timed.specs.Limited.{Limited}
+use Rattle.timed.proofs.Walking.{Turn, Walking, walking_start, walking_next, walking_all}
+use Rattle.timed.proofs.LimitWalk.{threads, limit, limit-idle, limit_ends, limit_runs, limited-next}
+use Rattle.timed.proofs.limits.leap_limits.Given as goal
+
+abbrev pub invariant-loop-i : goal.invariant-loop-i
+invariant-loop-i l =
+    Walking (limit_leap l.ticks) threads limit absent_thread l.end (view l.initial.image) l.i l.image l.nearest l.moved × Limited (view l.image)
+
+abbrev pub decreases-loop-i : goal.decreases-loop-i
+decreases-loop-i l = l.end - l.i

@@ -1,0 +1,6 @@
+-- The report is read off the image.
+use Rattle.std.proofs.Common.{rules}
+use Rattle.timed.proofs.told.Goals as goal
+
+pub returns : goal.returns
+returns c = rw (c.chosen.ensures, c.clock.ensures)
