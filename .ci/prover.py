@@ -1,8 +1,8 @@
-"""The prover on an edited crate, in seconds, for the scripts beside this file.
+"""What the prover says of edited sources, for the scripts beside this file.
 
-`rt ci` and `rt check` leave all that they have proved in target/rlib, module by module. In a copy of the repository a crate is checked over just
-these modules (`rt dev`), so that the prover looks again only at what an edit touches. That decides an edit, and is no verdict on the crate: the
-verdict is `rt ci`'s."""
+Edits go through `rt must-fail` and `rt ci`, which try each over what the crate's own check proved. Other changes go through `rt check` in a copy of
+the crates, which begins with what checks in other copies on this machine have proved, so that the prover looks again only at what a change touches.
+That decides a change, and is no verdict on the crate: the verdict is `rt ci`'s."""
 import concurrent.futures
 import os
 import pathlib
@@ -12,19 +12,18 @@ import shutil
 import subprocess
 import sys
 import tempfile
-import threading
 
-from sources import TOP
+from sources import TOP, functions
 
 # What the prover says of a fact that its own search or arithmetic doesn't find to hold, and of one that isn't what the proof shows.
-NOT_FOUND = ("does not follow from what it read", "no proof of", "does not close")
+NOT_FOUND = ("it is not proved that", "does not follow from what it read", "no proof of", "does not close")
 NOT_SHOWN = ("expected type", "the two types", "the two values", "give a proof of that as the last argument")
 # No facts: a loop's invariant or measure that no longer fits its variables, and two types that are only places in the walk through a function.
-UNFIT = re.compile(r"`(?:Inv-|μ-)|(?s:.*)expected type `(?:tie\.|\S*\.(?:Tie|Lts)\.)[\w-]+`")
+UNFIT = re.compile(r"`(?:invariant|decreases)-[^`]*`:|(?s:.*)expected type `(?:tie\.|\S*\.(?:Tie|Lts)\.)[\w-]+`")
 # What a function leaves, and what a turn of its loop does.
-LEFT = re.compile(r"`(?:returns|loop-)")
-# What only tells that something else failed before.
-CONSEQUENCE = "so this cannot be checked"
+LEFT = re.compile(r"`(?:returns|loop-)|.*\(`(?:returns|loop-)")
+# An error, in a file of proofs or definitions or where the prover goes through a function by itself.
+ERROR = re.compile(r"(?m)^(?:note: )?(?:\./)?(proofs|specs|src)/(\S+?):(\d+):\d+: (?:error: )?((?:.*)(?:\n  .*)*)")
 
 
 class Said:
@@ -39,26 +38,33 @@ class Said:
     def refused(self):
         return self.status == 1 and re.search(r"(?m)^logic=not-proved", self.text) is not None
 
-    def modules(self):
-        """How many of the crate's modules were taken as they were proved, and how many were checked."""
-        found = re.search(rf"(?m)^crate {self.crate}: modules loaded=(\d+) checked=(\d+)", self.text)
-        return (int(found[1]), int(found[2])) if found else (0, 0)
-
     def errors(self):
-        """Each error with the path of the function or of the law file that it is in, as in `row::push` or `Hold.antt`: those in proof files
-        first, then those of functions that the prover goes through by itself."""
-        told = re.findall(r"(?m)^\S*/proofs/(\S+\.antt):\d+:\d+: error: ((?:.*)(?:\n  .*)*)", self.text)
-        found = [(path.removesuffix("/Proof.antt").replace("/", "::"), said) for path, said in told]
-        found += re.findall(rf"(?m)^fn {self.crate}::(\S+): no proof: (.*)", self.text)
-        return [(where, said) for where, said in found if CONSEQUENCE not in said]
+        """Each error with the path of the function or the file that it is in, as in `row::push` or `Hold.antt`."""
+        return [(where, said) for where, said in map(lambda found: located(self.crate, found), ERROR.finditer(self.text)) if where]
 
     def first_line(self):
         lines = [line for line in self.text.splitlines() if "error" in line] or self.text.splitlines()
         return lines[0][:300] if lines else "nothing was said"
 
 
+def located(crate, found):
+    """Where an error is, and what it says."""
+    folder, file, line, said = found.groups()
+    if folder == "src":
+        inside = functions_on_lines(crate, TOP / "crates" / crate / folder / file, int(line) - 1, int(line) - 1)
+        return (sorted(inside)[0] if len(inside) == 1 else None), said
+    return re.sub(r"/(?:Answers|Invariants|Proof)\.antt$", "", file).replace("/", "::"), said
+
+
 def is_about_a_fact(error):
     return any(word in error for word in NOT_FOUND) or any(word in error for word in NOT_SHOWN) and not UNFIT.match(error)
+
+
+def is_unanswered(crate, where, what):
+    """Whether this is a goal to which the function's proof file has no answer, though it has answers to others."""
+    file = TOP / "crates" / crate / "proofs" / where.replace("::", "/") / "Answers.antt"
+    goal = re.search(r"\(`([\w-]+)`\)", what)
+    return what.startswith("it is not proved that") and file.is_file() and not (goal and re.search(rf"(?m)^pub {goal[1]} :", file.read_text()))
 
 
 def failing_fact(errors):
@@ -71,47 +77,48 @@ def failing_fact(errors):
     return next((error for error in errors if LEFT.match(error) and is_about_a_fact(error)), None)
 
 
-# The name of that folder, once it is known.
-KEPT, NAMING = [], threading.Lock()
+def of_crate(crate):
+    """The crate's functions by their path, as in `row::push`."""
+    found = {}
+    for path in sorted((TOP / "crates" / crate / "src").glob("*.rt")):
+        module = "" if path.stem in ("lib", "main") else f"{path.stem}::"
+        found.update({module + function.name: function for function in functions(path)})
+    return found
+
+
+def functions_on_lines(crate, path, first, last):
+    """The functions on these lines of a file; for a constant, those that name it."""
+    known = of_crate(crate)
+    inside = {name for name, its in known.items() if its.path == path and its.at <= last and first < its.at + len(its.lines)}
+    if inside:
+        return inside
+    constants = re.findall(r"\bconst (\w+)", "\n".join(path.read_text().split("\n")[first : last + 1]))
+    return {name for name, its in known.items() if any(re.search(rf"\b{constant}\b", "\n".join(its.lines)) for constant in constants)}
+
+
+# ---- copies of the crates
 
 
 class Workplace:
-    """A copy of the sources, over what is proved of them."""
+    """A copy of the sources, in which something can be changed."""
 
     def __init__(self, folder):
         self.top = pathlib.Path(folder)
-        shutil.copytree(TOP / "crates", self.top / "crates")
-        shutil.copy(TOP / "crates.txt", self.top)
-        (self.top / "target").mkdir()
-        for proved in ("rlib", "stamp"):
-            (self.top / "target" / proved).symlink_to(TOP / "target" / proved)
+        shutil.copytree(TOP / "crates", self.top / "crates", ignore=lambda at, names: {"out"} & set(names) if pathlib.Path(at).parent == TOP / "crates" else ())
+        for file in ("crates.txt", "HANDLES"):
+            if (TOP / file).is_file():
+                shutil.copy(TOP / file, self.top)
 
     def path(self, crate, file):
         return self.top / "crates" / crate / file
 
     def run(self, crate):
-        ran = subprocess.run(["rt", "dev", crate], cwd=self.top, capture_output=True, text=True)
+        ran = subprocess.run(["rt", "check"], cwd=self.top / "crates" / crate, capture_output=True, text=True)
         return Said(crate, ran.stdout + ran.stderr, ran.returncode)
 
-    def kept(self, crate):
-        """The folder in which the prover keeps what it has checked of a crate. It names it itself, so a check of the lowest crate tells the name."""
-        with NAMING:
-            if not KEPT:
-                lowest = next(line.split(":")[0] for line in (self.top / "crates.txt").read_text().splitlines() if re.match(r"\w+:", line))
-                self.run(lowest)
-                KEPT.extend(path.name for path in (self.top / "target" / "inc" / lowest).iterdir())
-        return self.top / "target" / "inc" / crate / KEPT[0]
-
-    def seed(self, crate):
-        """The crate's modules as they were proved, and nothing that an edit has left."""
-        kept = self.kept(crate)
-        shutil.rmtree(kept.parent, ignore_errors=True)
-        shutil.copytree(self.top / "target" / "rlib" / f"{crate}.rlib" / "toolchain" / "checked", kept)
-
     def check(self, crate, files):
-        """The crate with these texts in the place of its files, over its seed; the copy is left as it was."""
+        """The crate with these texts in the place of its files; the copy is left as it was."""
         before = {self.path(crate, file): self.path(crate, file).read_text() for file in files}
-        self.seed(crate)
         for file, text in files.items():
             self.path(crate, file).write_text(text)
         said = self.run(crate)
@@ -119,22 +126,18 @@ class Workplace:
             path.write_text(text)
         return said
 
-    def control(self, crate, files=None):
-        """What is wrong with the seed of a crate: its own sources have to be proved, each module of them as it was. Nothing where all is well."""
-        said = self.check(crate, files or {})
-        if not said.proved():
-            return f"{crate}: the sources as they stand aren't proved: {said.first_line()}"
-        loaded, checked = said.modules()
-        if checked or not loaded:
-            return f"{crate}: what was proved isn't of these sources: {checked} modules had to be checked, {loaded} were as they were proved"
-        return None
+    def control(self, crate):
+        """What is wrong with a crate as it stands: it has to be proved. Nothing where all is well."""
+        said = self.check(crate, {})
+        return None if said.proved() else f"{crate}: the sources as they stand aren't proved: {said.first_line()}"
 
 
 def proved_now(crates):
-    """Has rt prove what has changed since it was last proved."""
-    ran = subprocess.run(["rt", "check", *crates], cwd=TOP, capture_output=True, text=True)
-    if ran.returncode != 0:
-        sys.exit("not proved as it stands:\n" + "\n".join((ran.stdout + ran.stderr).splitlines()[-20:]))
+    """Has rt prove what has changed since it was last proved, so that copies begin with that."""
+    for crate in crates:
+        ran = subprocess.run(["rt", "check"], cwd=TOP / "crates" / crate, capture_output=True, text=True)
+        if ran.returncode != 0:
+            sys.exit(f"{crate} isn't proved as it stands:\n" + "\n".join((ran.stdout + ran.stderr).splitlines()[-20:]))
 
 
 def in_workplaces(work, items):
