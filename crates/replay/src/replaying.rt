@@ -2,9 +2,9 @@
 ghost use Rattle.std.specs.Prelude.{◌+◌, ◌<◌, ◌≤◌};
 
 use crate::{input, messages};
-use libc::STDOUT_FILENO;
 use model::tables::Table;
 use records::RECORD_LENGTH;
+use std::io::{Print, Read};
 
 // A whole number of records, and room for the lines of as many and for that of a bad one.
 const BLOCK: usize = 16380;
@@ -20,32 +20,40 @@ struct Replayed {
 }
 
 // Where a read failed, what was read of the next record is no short record.
-fn readable(filled: input::Filled) -> usize
-    ensures { result ≤ filled.count }
+fn readable(filled: &input::Filled) -> usize
+    ensures { result ≤ filled.now.count }
 {
-    if filled.failed {
+    if filled.failure.is_some() {
         filled.count - filled.count % RECORD_LENGTH
     } else {
         filled.count
     }
 }
 
-fn turn(fd: i32, name: &[u8], t: Table, rows: &mut [[u8; 16]; 8], offset: u64) -> Replayed
+fn turn<R: Read>(
+    reader: &mut R,
+    name: &[u8],
+    out: &impl Print,
+    errors: &impl Print,
+    t: Table,
+    rows: &mut [[u8; 16]; 8],
+    offset: u64,
+) -> Replayed
     requires { offset + 16380 < 18446744073709551616 }
 {
     let mut block = [0u8; BLOCK];
-    let filled = input::fill(fd, &mut block);
-    let count = readable(filled);
+    let filled = input::fill(reader, &mut block);
+    let count = readable(&filled);
     let mut text = [0u8; ROOM];
     let done = blocks::replay_block(t, &mut *rows, &block[..count], offset, &mut text);
     let table = done.table;
     let length = done.length;
     let mut more = false;
-    if !io::write_all(STDOUT_FILENO, &text[..length]) {
-        messages::cannot_write();
+    if let Err(why) = out.write_all(&text[..length]) {
+        messages::cannot_write(errors, &why);
     } else if done.good {
-        if filled.failed {
-            messages::cannot_read(name);
+        if let Some(why) = filled.failure {
+            messages::cannot_read(errors, name, &why);
         } else {
             more = count == BLOCK;
         }
@@ -56,17 +64,17 @@ fn turn(fd: i32, name: &[u8], t: Table, rows: &mut [[u8; 16]; 8], offset: u64) -
     }
 }
 
-pub fn replay(fd: i32, name: &[u8]) {
+pub fn replay<R: Read>(reader: &mut R, name: &[u8], out: &impl Print, errors: &impl Print) {
     let mut table = entries::fresh();
     let mut rows = entries::fresh_rows();
     let mut offset: u64 = 0;
     while offset < LAST_OFFSET {
-        let done = turn(fd, name, table, &mut rows, offset);
+        let done = turn(reader, name, out, errors, table, &mut rows, offset);
         if !done.more {
             return;
         }
         table = done.table;
         offset += BLOCK as u64;
     }
-    messages::too_long(name);
+    messages::too_long(errors, name);
 }
