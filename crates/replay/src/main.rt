@@ -26,14 +26,14 @@ fn is_given(rt: &impl Env, i: usize) -> bool {
 }
 
 fn replay_file(rt: &HostRuntime, name: &[u8]) {
-    let errors = rt.stderr();
+    let mut errors = rt.stderr();
     let Ok(path) = str::from_utf8(name) else {
-        messages::cannot_read(&errors, name, &Error::from_raw_os_error(EILSEQ));
+        messages::cannot_read(&mut errors, name, &Error::from_raw_os_error(EILSEQ));
         return;
     };
     match File::open(rt, path) {
-        Ok(mut file) => replaying::replay(&mut file, name, &rt.stdout(), &errors),
-        Err(why) => messages::cannot_read(&errors, name, &why),
+        Ok(mut file) => replaying::replay(&mut file, name, &mut rt.stdout(), &mut errors),
+        Err(why) => messages::cannot_read(&mut errors, name, &why),
     }
 }
 
@@ -43,7 +43,7 @@ fn replay_named(rt: &HostRuntime) {
         Ok(length) => replay_file(rt, &path[..length]),
         Err(_) => {
             let why = Error::from_raw_os_error(ENAMETOOLONG);
-            messages::cannot_read(&rt.stderr(), b"what the argument names", &why);
+            messages::cannot_read(&mut rt.stderr(), b"what the argument names", &why);
         }
     }
 }
@@ -53,12 +53,12 @@ fn main(rt: HostRuntime) {
         replaying::replay(
             &mut rt.stdin(),
             b"standard input",
-            &rt.stdout(),
-            &rt.stderr(),
+            &mut rt.stdout(),
+            &mut rt.stderr(),
         );
     } else if !is_given(&rt, 2) {
         replay_named(&rt);
     } else {
-        messages::one_file(&rt.stderr());
+        messages::one_file(&mut rt.stderr());
     }
 }

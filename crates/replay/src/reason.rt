@@ -1,5 +1,5 @@
 // Why the system failed, in its own words: `Error` puts the number behind them, as in "Is a directory (os error 21)", which isn't told.
-use std::io::{Cursor, Error, Print, Write};
+use std::io::{Cursor, Error, Write};
 
 // More than the text of an `Error` takes.
 const ROOM: usize = 512;
@@ -12,7 +12,7 @@ fn without_number(text: &[u8]) -> &[u8] {
     }
 }
 
-pub fn tell(errors: &impl Print, why: &Error) {
+pub fn tell(errors: &mut impl Write, why: &Error) {
     let mut writer = Cursor::new([0u8; ROOM]);
     let _ = write!(writer, "{why}");
     let length = writer.position().min(ROOM as u64) as usize;

@@ -18,5 +18,5 @@ read-behind a k n xs ys within fits =
 pub loop-count-preserved : goal.loop-count-preserved
 loop-count-preserved g c =
     let read = read-behind c.loop-count.count (length c.loop-count.block - c.loop-count.count) c.in-Ok.more c.loop-count.block c.read.new.buf
-      c.loop-count.invariant.0 c.in-Ok.ensures.bound.0 in
+    c.loop-count.invariant.0 c.in-Ok.ensures.bound.0 in
     (search rules, subst (Consumes _ _) (sym read) (Consumes-trans _ _ _ _ _ c.loop-count.invariant.1 c.in-Ok.ensures.bytes.0))
