@@ -1,33 +1,38 @@
 // Reading a block: until it is full, the input ends or a read fails. The last two aren't the same, as a file that can't be read to its end
 // must not pass for a short one.
+ghost use Rattle.std.specs.Prelude.{◌<◌, IsNone, length, take};
+ghost use Rattle.std.specs.Io.KnownBytes.{Consumes, IsAtEnd};
 ghost use Rattle.io.specs.Counts.{IsPrefixLen};
 
+use std::io::{Error, Read};
+
+// How many bytes were read, and why no more where a read failed.
 #[derive(Clone, Copy)]
 pub struct Filled {
     pub count: usize,
-    pub failed: bool,
+    pub failure: Option<Error>,
 }
 
-pub fn fill(fd: i32, block: &mut [u8]) -> Filled
-    ensures { IsPrefixLen result.count block.new }
+pub fn fill<R: Read>(reader: &mut R, block: &mut [u8]) -> Filled
+    ensures counts { IsPrefixLen result.count block.new }
+    ensures bytes { Consumes (R.remaining reader.old) (R.remaining reader.new) (take result.count block.new) }
+    ensures end { IsNone result.failure → result.count < length block.new → IsAtEnd (R.remaining reader.new) }
 {
     let mut count = 0;
     while count < block.len() {
-        let got = libc::read(fd, &mut block[count..]);
-        if got < 0 {
-            return Filled {
-                count: count,
-                failed: true,
-            };
+        match reader.read(&mut block[count..]) {
+            Ok(0) => break,
+            Ok(more) => count += more,
+            Err(why) => {
+                return Filled {
+                    count: count,
+                    failure: Some(why),
+                };
+            }
         }
-        let more = io::count(got, &block[count..]);
-        if more == 0 {
-            break;
-        }
-        count += more;
     }
     Filled {
         count: count,
-        failed: false,
+        failure: None,
     }
 }

@@ -5,33 +5,60 @@
 
 mod input;
 mod messages;
+mod reason;
 mod replaying;
 
-use libc::STDIN_FILENO;
+use std::env::FillError;
+use std::fs::File;
+use std::io::Error;
+use std::rt::Env;
 
-fn replay_named() {
-    let mut path = io::buffer();
-    let length = os::arg(1, &mut path);
-    if os::errno() != 0 {
-        messages::cannot_read(b"what the argument names");
-        return;
-    }
-    let fd = os::open_read(&path[..length]);
-    if fd < 0 {
-        messages::cannot_read(&path[..length]);
-        return;
-    }
-    replaying::replay(fd, &path[..length]);
-    libc::close(fd);
+// As many bytes as Linux takes for a path, and the NUL that ends it.
+const PATH_ROOM: usize = 4096;
+
+// Linux's numbers for a name that is too long, and for bytes that are no text.
+const ENAMETOOLONG: i32 = 36;
+
+const EILSEQ: i32 = 84;
+
+fn is_given(rt: &impl Env, i: usize) -> bool {
+    !matches!(rt.arg(i, &mut []), Err(FillError::NotPresent))
 }
 
-fn main() {
-    let count = os::arg_count();
-    if count < 2 {
-        replaying::replay(STDIN_FILENO, b"standard input");
-    } else if count == 2 {
-        replay_named();
+fn replay_file(rt: &HostRuntime, name: &[u8]) {
+    let mut errors = rt.stderr();
+    let Ok(path) = str::from_utf8(name) else {
+        messages::cannot_read(&mut errors, name, &Error::from_raw_os_error(EILSEQ));
+        return;
+    };
+    match File::open(rt, path) {
+        Ok(mut file) => replaying::replay(&mut file, name, &mut rt.stdout(), &mut errors),
+        Err(why) => messages::cannot_read(&mut errors, name, &why),
+    }
+}
+
+fn replay_named(rt: &HostRuntime) {
+    let mut path = [0u8; PATH_ROOM];
+    match rt.arg(1, &mut path) {
+        Ok(length) => replay_file(rt, &path[..length]),
+        Err(_) => {
+            let why = Error::from_raw_os_error(ENAMETOOLONG);
+            messages::cannot_read(&mut rt.stderr(), b"what the argument names", &why);
+        }
+    }
+}
+
+fn main(rt: HostRuntime) {
+    if !is_given(&rt, 1) {
+        replaying::replay(
+            &mut rt.stdin(),
+            b"standard input",
+            &mut rt.stdout(),
+            &mut rt.stderr(),
+        );
+    } else if !is_given(&rt, 2) {
+        replay_named(&rt);
     } else {
-        messages::one_file();
+        messages::one_file(&mut rt.stderr());
     }
 }

@@ -1,23 +1,32 @@
-// What is told on standard error, each on a line. The system's own reason stands behind the name.
-use libc::STDERR_FILENO;
+// What is told on standard error, each on a line. The system's own reason stands behind the name. Where standard error takes nothing,
+// nobody is left to be told.
+use crate::reason;
+use std::io::{Error, Write};
 
-pub fn cannot_read(name: &[u8]) {
-    io::write_all(STDERR_FILENO, b"ordizgum replay: cannot read ");
-    os::fail(name);
+fn cannot(errors: &mut impl Write, what: &[u8], name: &[u8], why: &Error) {
+    let _ = errors.write_all(b"ordizgum replay: cannot ");
+    let _ = errors.write_all(what);
+    let _ = errors.write_all(name);
+    let _ = errors.write_all(b": ");
+    reason::tell(errors, why);
+    let _ = errors.write_all(b"\n");
 }
 
-pub fn cannot_write() {
-    io::write_all(STDERR_FILENO, b"ordizgum replay: cannot write ");
-    os::fail(b"standard output");
+pub fn cannot_read(errors: &mut impl Write, name: &[u8], why: &Error) {
+    cannot(errors, b"read ", name, why);
+}
+
+pub fn cannot_write(errors: &mut impl Write, why: &Error) {
+    cannot(errors, b"write ", b"standard output", why);
 }
 
 // Offsets have 64 bits.
-pub fn too_long(name: &[u8]) {
-    io::write_all(STDERR_FILENO, b"ordizgum replay: too long to be counted: ");
-    io::write_all(STDERR_FILENO, name);
-    io::write_all(STDERR_FILENO, b"\n");
+pub fn too_long(errors: &mut impl Write, name: &[u8]) {
+    let _ = errors.write_all(b"ordizgum replay: too long to be counted: ");
+    let _ = errors.write_all(name);
+    let _ = errors.write_all(b"\n");
 }
 
-pub fn one_file() {
-    io::write_all(STDERR_FILENO, b"ordizgum replay: one file at a time\n");
+pub fn one_file(errors: &mut impl Write) {
+    let _ = errors.write_all(b"ordizgum replay: one file at a time\n");
 }

@@ -4,11 +4,11 @@
 
 use fields::places::IMAGE_LENGTH;
 use lent::Held;
-use libc::STDOUT_FILENO;
 use model::answers::Report;
 use model::calls::{CREATE_THREAD, START};
 use model::requests::Request;
 use rules::numbers;
+use std::io;
 
 mod lending;
 
@@ -26,7 +26,7 @@ fn request(call: u32, id: u32, a: u32) -> Request {
     }
 }
 
-fn tell(told: Report) {
+fn tell(out: &impl Print, told: Report) -> io::Result<()> {
     let mut line = [0u8; LINE];
     let answer = told.answer;
     let number = numbers::number(answer);
@@ -38,15 +38,15 @@ fn tell(told: Report) {
         told.clock,
         told.wakeups,
     );
-    io::write_all(STDOUT_FILENO, &line[..length]);
+    out.write_all(&line[..length])
 }
 
-fn main() {
+fn main(rt: HostRuntime) -> io::Result<()> {
     let table = Held {
         image: [0; IMAGE_LENGTH],
     };
     let told = lending::first_run(table, request(CREATE_THREAD, 3, 4), request(START, 3, 0), 5);
-    tell(told.created);
-    tell(told.started);
-    tell(told.advanced);
+    tell(&rt, told.created)?;
+    tell(&rt, told.started)?;
+    tell(&rt, told.advanced)
 }
