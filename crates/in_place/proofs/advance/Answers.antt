@@ -1,5 +1,4 @@
 -- The call of that request.
-use borrow.Author.Rules.{rules}
 use Rattle.in_place.proofs.advance.Goals as goal
 
 pub returns : goal.returns

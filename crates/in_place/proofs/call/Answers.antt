@@ -1,10 +1,8 @@
 -- By the test of soundness: a sound image is what each kind of call asks for, and any other stays as it was with answer 1.
 use mathlib.Core.Path.{◌≡◌, refl, sym, ◌∙◌}
 use mathlib.Core.Bool.{true, false}
-use borrow.Author.Tests.{not-true, not-false}
 use Rattle.model.specs.Layout.{sound_image}
 use Rattle.in_place.specs.Kept.{told, kept}
-use borrow.Author.Rules.{rules}
 use Rattle.in_place.proofs.call.Goals as goal
 use Rattle.in_place.proofs.call.Goals.{Else-not-is_sound}
 
@@ -25,12 +23,12 @@ untimed-requires c = record { image_value = found (goal.at.untimed-requires c).E
 
 pub returns-then-q-eq-ADVANCE : goal.returns-then-q-eq-ADVANCE
 unfolding told kept
-returns-then-q-eq-ADVANCE c = 
+returns-then-q-eq-ADVANCE c =
     let sound = found (goal.at.returns-then-q-eq-ADVANCE c).Else-not-is_sound in
     record { report = rw sound c.timed.ensures.report; image = rw sound c.timed.ensures.image }
 
 pub returns-else-q-eq-ADVANCE : goal.returns-else-q-eq-ADVANCE
 unfolding told kept
-returns-else-q-eq-ADVANCE c = 
+returns-else-q-eq-ADVANCE c =
     let sound = found (goal.at.returns-else-q-eq-ADVANCE c).Else-not-is_sound in
     record { report = rw sound c.untimed.ensures.report; image = rw sound c.untimed.ensures.image }

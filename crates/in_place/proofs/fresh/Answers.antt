@@ -6,7 +6,6 @@ use lib.ListN.{length}
 use borrow.Author.Tests.{eq-eqb, ne_eqb}
 use Rattle.model.specs.Layout.{image_length}
 use Rattle.in_place.specs.Kept.{fresh_kept}
-use borrow.Author.Rules.{rules}
 use Rattle.in_place.proofs.fresh.Goals as goal
 
 pub returns-then-image-ne-IMAGE_LENGTH : goal.returns-then-image-ne-IMAGE_LENGTH

@@ -1,12 +1,10 @@
 -- Only of a sound image there is something to tell.
 use mathlib.Core.Path.{◌≡◌, sym, ◌∙◌}
 use mathlib.Core.Bool.{true}
-use borrow.Author.Tests.{not-true, not-false}
 use Rattle.model.specs.Layout.{sound_image}
 use Rattle.words.specs.Images.{Whole}
 use Rattle.untimed.proofs.Laid.{sound-whole}
 use Rattle.in_place.specs.Kept.{next_told}
-use borrow.Author.Rules.{rules}
 use Rattle.in_place.proofs.next_wake_up.Goals as goal
 use Rattle.in_place.proofs.next_wake_up.Goals.{Else-not-is_sound}
 

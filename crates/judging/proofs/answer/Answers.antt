@@ -2,7 +2,6 @@
 use Rattle.model.specs.Kernel.{judge}
 use Rattle.model.specs.Layout.{view}
 use Rattle.rules.proofs.ByNumber.{no_call, call-in_range}
-use borrow.Author.Rules.{rules}
 use Rattle.judging.proofs.answer.Goals as goal
 
 pub returns-then-call : goal.returns-then-call

@@ -1,7 +1,6 @@
 -- The bytes that are lent are those that the table holds.
 use Rattle.model.specs.Promises.{advancing}
 use Rattle.lent.proofs.Calls.{held_call}
-use borrow.Author.Rules.{rules}
 use Rattle.lent.proofs.advanced.Goals as goal
 
 pub returns : goal.returns

@@ -1,6 +1,5 @@
 -- The bytes that are lent are those that the table holds.
 use Rattle.lent.proofs.Calls.{held_call}
-use borrow.Author.Rules.{rules}
 use Rattle.lent.proofs.called.Goals as goal
 
 pub returns : goal.returns

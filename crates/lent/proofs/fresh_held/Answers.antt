@@ -4,7 +4,6 @@ use mathlib.Core.List.{List}
 use Prim.Native.Nat.{ℕ}
 use Rattle.lent.specs.declared.Held.{Held}
 use Rattle.in_place.specs.Kept.{fresh_kept}
-use borrow.Author.Rules.{rules}
 use Rattle.lent.proofs.fresh_held.Goals as goal
 
 abbrev holding : List ℕ → Held

@@ -3,7 +3,7 @@ use mathlib.Core.Path.{◌≡◌, sym, ◌∙◌}
 use mathlib.Core.Bool.{Bool, true, false, ◌&&◌}
 use mathlib.Core.List.{List}
 use Prim.Native.Nat.{ℕ}
-use borrow.Author.Tests.{ne_eqb, not-true, not-false}
+use borrow.Author.Tests.{ne_eqb}
 use lib.Dec.{eqb}
 use lib.ListN.{length}
 use Rattle.sequences.specs.Bytes.{Bytes}
@@ -19,7 +19,6 @@ use Rattle.fields.specs.Fields.{Sized}
 use Rattle.sound.specs.Asked.{threads_asked, objects_asked}
 use Rattle.sound.proofs.ThreadsAsked.{asked-orderly}
 use Rattle.sound.proofs.AskedSound.{followed, asked-sound}
-use borrow.Author.Rules.{rules}
 use Rattle.sound.proofs.is_sound.Goals as goal
 use Rattle.sound.proofs.is_sound.Goals.{Else-not-note}
 

@@ -1,5 +1,5 @@
 -- Where somebody may have moved there is a choice; else it is as it was, and the quantum's end is as many ticks nearer.
-use Rattle.std.proofs.Common.{ℕ, ◌-◌, ◌<◌, ◌≤◌, sym, ap, ◌∙◌, arith, rules}
+use Rattle.std.proofs.Common.{ℕ, ◌-◌, ◌<◌, ◌≤◌, sym, ap, ◌∙◌, arith}
 use Rattle.model.specs.State.{State}
 use Rattle.model.specs.Layout.{view}
 use Rattle.rules.specs.Counting.{never, place}

@@ -1,5 +1,5 @@
 -- Step after step; what each asks of the table holds after the ones before it.
-use Rattle.std.proofs.Common.{◌≡◌, ℕ, ◌+◌, min, false, ◌||◌, eqb, sym, refl, ap, ◌∙◌, subst, ap₂, rules}
+use Rattle.std.proofs.Common.{◌≡◌, ℕ, ◌+◌, min, false, ◌||◌, eqb, sym, refl, ap, ◌∙◌, subst, ap₂}
 use borrow.Author.Tests.{eqb-false}
 use Rattle.sequences.specs.Lists.{nearest, nearer}
 use Rattle.sequences.specs.Steps.{in_order}
@@ -64,11 +64,14 @@ leap_timers-timed-requires c =
 
 pub fall_limits-limited-requires : goal.fall_limits-limited-requires
 fall_limits-limited-requires c =
-    record { whole = (both (goal.at.fall_limits-limited-requires c).After-leap_timers-timed).whole; ticks_nonzero = (
+    record {
+      whole = (both (goal.at.fall_limits-limited-requires c).After-leap_timers-timed).whole;
+      ticks_nonzero = (
         c.requires.falls.1,
         subst Limited (sym (both (goal.at.fall_limits-limited-requires c).After-leap_timers-timed).view) (onward-limited (onward (goal.at.fall_limits-limited-requires c).After-leap_timers-timed) (fallen (goal.at.fall_limits-limited-requires c).After-leap_timers-timed).limited),
         subst (LimitsFrom c.args.from c.args.end) (sym (both (goal.at.fall_limits-limited-requires c).After-leap_timers-timed).view) (onward-from (onward (goal.at.fall_limits-limited-requires c).After-leap_timers-timed) c.requires.timers_to.1),
-      ) }
+      );
+    }
 
 pub choose_anew-later-requires : goal.choose_anew-later-requires
 choose_anew-later-requires c = record { whole = c.fall_limits-limited.ensures.image.whole; unchanged = still (goal.at.choose_anew-later-requires c).After-fall_limits-limited }
@@ -88,11 +91,15 @@ returns c =
     = ap nearest_counter seen
     ∙ walked_nearest c.args.ticks (view c.leap_timers-timed.new.image)
     ∙ ap (λ (x : State). nearer (nearest (times (view c.leap_timers-timed.new.image))) (nearest (limits x))) (sym walked.image.view)
-    in record { image = same_word all (fall (gap t) c.args.ticks) refl; ahead = record {
-          due =
-              record {
-                fits = rw first (nearer-fits _ _ near.fits walked.nearest.fits);
-                at = c.earlier-due.ensures ∙ ap₂ min near.at walked.nearest.at ∙ nearer-place _ _ near.fits walked.nearest.fits ∙ ap place (sym first);
-              };
-          quantum = chosen.quantum;
-        }; from = subst (LimitsFrom c.fall_limits-limited.result.from c.args.end) (sym chosen.image.view) (onward-from (choose-onward (view c.fall_limits-limited.new.image)) walked.from) }
+    in record {
+      image = same_word all (fall (gap t) c.args.ticks) refl;
+      ahead = record {
+        due =
+            record {
+              fits = rw first (nearer-fits _ _ near.fits walked.nearest.fits);
+              at = c.earlier-due.ensures ∙ ap₂ min near.at walked.nearest.at ∙ nearer-place _ _ near.fits walked.nearest.fits ∙ ap place (sym first);
+            };
+        quantum = chosen.quantum;
+      };
+      from = subst (LimitsFrom c.fall_limits-limited.result.from c.args.end) (sym chosen.image.view) (onward-from (choose-onward (view c.fall_limits-limited.new.image)) walked.from);
+    }

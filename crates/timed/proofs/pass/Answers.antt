@@ -1,4 +1,4 @@
-use Rattle.std.proofs.Common.{ℕ, ◌+◌, ◌-◌, ◌%◌, ◌^◌, ◌<◌, ◌≤◌, min, sym, refl, ap, ◌∙◌, subst, ap₂, arith, rules}
+use Rattle.std.proofs.Common.{ℕ, ◌+◌, ◌-◌, ◌%◌, ◌^◌, ◌<◌, ◌≤◌, min, sym, refl, ap, ◌∙◌, subst, ap₂, arith}
 use Rattle.sequences.specs.Jumps.{Free}
 use Rattle.model.specs.State.{State}
 use Rattle.model.specs.Layout.{view}
@@ -10,7 +10,7 @@ use Rattle.words.proofs.Does.{and_then, altered_does}
 use Rattle.untimed.proofs.Laid.{view-sound, sound-whole}
 use Rattle.timed.specs.Counters.{Due, nearest_counter}
 use Rattle.timed.specs.Running.{TimersTo, LimitsFrom}
-use Rattle.timed.proofs.Passing.{Passing, passing_start, passing_due, passing_falls, passing_fall, passing_turn, turn_counts, turn_chosen, rest-running, rest_counters, passing_room, passed, passed-next}
+use Rattle.timed.proofs.Passing.{passing_start, passing_due, passing_falls, passing_fall, passing_turn, turn_counts, turn_chosen, rest-running, rest_counters, passing_room, passed, passed-next}
 use Rattle.timed.proofs.Using.{spend-nearest, spend-timers_to, spend-limits-from}
 use Rattle.timed.proofs.pass.Goals as goal
 use Rattle.timed.proofs.pass.Goals.{After-loop-left, Else-until-quantum, Then-until-quantum}
@@ -42,7 +42,6 @@ module _ (c : Else-until-quantum) where
   turns = omega (arith, first, c.loop-left-test.true, c.earlier-in-loop-left.ensures)
 
 -- ---- and to the end
-
 
 module _ (c : After-loop-left) where
   quiet : c.loop-left.left ≤ c.loop-left.quantum
@@ -154,13 +153,17 @@ rest_counters-others-requires c =
     let v = view l.image in
     let seen = sym c.rest_quantum-own.ensures.image.view in
     let near = spend-nearest l.left v in
-    let due : Due (spend l.left v) l.due = record { fits = rw near p.ahead.due.fits; at = p.ahead.due.at ∙ ap place (sym near) } in record { whole = c.rest_quantum-own.ensures.image.whole; due = (
-          subst (λ (x : State). Due x l.due) seen due,
-          subst (λ (x : State). Free (l.debt + l.left) (nearest_counter x)) seen (rw near (rest_counters p (quiet (goal.at.rest_counters-others-requires c).After-loop-left) (owing (goal.at.rest_counters-others-requires c).After-loop-left))),
-        ); timers_to = (
-          subst (TimersTo c.reach-ends.result.stop) seen (spend-timers_to l.left v p.timers),
-          subst (LimitsFrom l.from c.reach-ends.result.end) seen (spend-limits-from l.left v p.limits),
-        ) }
+    let due : Due (spend l.left v) l.due = record { fits = rw near p.ahead.due.fits; at = p.ahead.due.at ∙ ap place (sym near) } in record {
+      whole = c.rest_quantum-own.ensures.image.whole;
+      due = (
+        subst (λ (x : State). Due x l.due) seen due,
+        subst (λ (x : State). Free (l.debt + l.left) (nearest_counter x)) seen (rw near (rest_counters p (quiet (goal.at.rest_counters-others-requires c).After-loop-left) (owing (goal.at.rest_counters-others-requires c).After-loop-left))),
+      );
+      timers_to = (
+        subst (TimersTo c.reach-ends.result.stop) seen (spend-timers_to l.left v p.timers),
+        subst (LimitsFrom l.from c.reach-ends.result.end) seen (spend-limits-from l.left v p.limits),
+      );
+    }
 
 pub returns : goal.returns
 returns c =
@@ -170,8 +173,12 @@ returns c =
     let d = and_then c.rest_quantum-own.ensures.image c.rest_counters-others.ensures.image in
     let m = altered_does d.whole c.set_clock.ensures (unmoved_placed refl refl refl d.whole.placed) in
     let sum = c.wrapping_add_u32-clock.ensures.value ∙ ap (λ (x : ℕ). (x + c.args.n) % 2 ^ 32) c.clock.ensures in
-    let all = passed p (quiet (goal.at.returns c).After-loop-left) (owing (goal.at.returns c).After-loop-left) d m (view-sound b c.requires) sum in record { image = record { whole = all.0.whole; view = all.0.view }; wakeups = all.1; next = c.nearer.ensures ∙ passed-next p (quiet (goal.at.returns c).After-loop-left) (owing (goal.at.returns c).After-loop-left) d m c.rest_quantum-own.ensures.left
-            (c.rest_counters-others.ensures.left ∙ ap (λ (x : State). nearest_counter x - (l.debt + l.left)) c.rest_quantum-own.ensures.image.view) }
+    let all = passed p (quiet (goal.at.returns c).After-loop-left) (owing (goal.at.returns c).After-loop-left) d m (view-sound b c.requires) sum in record {
+      image = record { whole = all.0.whole; view = all.0.view };
+      wakeups = all.1;
+      next = c.nearer.ensures ∙ passed-next p (quiet (goal.at.returns c).After-loop-left) (owing (goal.at.returns c).After-loop-left) d m c.rest_quantum-own.ensures.left
+          (c.rest_counters-others.ensures.left ∙ ap (λ (x : State). nearest_counter x - (l.debt + l.left)) c.rest_quantum-own.ensures.image.view);
+    }
 
 pub shape_of-image : goal.shape_of-image
 shape_of-image c =

@@ -1,5 +1,5 @@
 -- Where no counter runs there is nothing to tell; else the nearest is behind these ticks.
-use Rattle.std.proofs.Common.{◌≡◌, ℕ, ◌+◌, ◌-◌, ◌<◌, sym, ap, arith, rules}
+use Rattle.std.proofs.Common.{◌≡◌, ℕ, ◌+◌, ◌-◌, ◌<◌, sym, ap, arith}
 use Rattle.model.specs.Layout.{view}
 use Rattle.timed.specs.Counters.{nearest_counter}
 use Rattle.timed.proofs.Placing.{place-back, place_none, free-before}

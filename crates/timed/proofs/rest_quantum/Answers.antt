@@ -1,5 +1,5 @@
 -- Where none counts there is nothing to spend; else its end is behind these ticks.
-use Rattle.std.proofs.Common.{◌≡◌, ℕ, ◌+◌, ◌-◌, ◌<◌, sym, ap, arith, rules}
+use Rattle.std.proofs.Common.{◌≡◌, ℕ, ◌+◌, ◌-◌, ◌<◌, sym, ap, arith}
 use Rattle.model.specs.Layout.{view}
 use Rattle.timed.specs.Counters.{running}
 use Rattle.timed.proofs.Placing.{place-back, place_none, free-before}

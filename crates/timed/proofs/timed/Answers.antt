@@ -1,6 +1,5 @@
 -- A refusal leaves the image and has no ticks; else its ticks are those asked for. What is told is what the model tells of the image after them.
 use Rattle.std.proofs.Common.{◌≡◌, ℕ, true, false, eqb, sym, ap, ◌∙◌, ap₂, rules}
-use borrow.Author.Tests.{not-true, not-false}
 use Rattle.sequences.specs.Steps.{wakeups}
 use Rattle.sequences.proofs.Numbers.{bytes_of}
 use Rattle.model.specs.declared.answers.Answer.{Answer}
@@ -52,10 +51,13 @@ returns-then-not-is_accepted c =
     let fine = view-sound b c.requires.image_value in
     let given = c.answer-answer.ensures in
     let refused = sym c.is_accepted.ensures ∙ c.if-not-is_accepted.true in
-    let whole = whole-outcome v q fine given (unmoved a q v refused) in record { report = c.told.ensures
+    let whole = whole-outcome v q fine given (unmoved a q v refused) in record {
+      report = c.told.ensures
           ∙ ap₂ (λ (w x : ℕ). record { answer = a; chosen = v.chosen; clock = v.clock; wakeups = w; next = x }) (no_ticks a q v refused) c.next_wake_up-next.ensures
           ∙ reported a (wakeups_in (span a q) v) v (outcomes.told v q fine given)
-          ∙ ap (λ (o : Outcome). o.report) (sym whole); image = rw whole (laid (sound-whole b c.requires.image_value) (bytes_of b (search rules))) }
+          ∙ ap (λ (o : Outcome). o.report) (sym whole);
+      image = rw whole (laid (sound-whole b c.requires.image_value) (bytes_of b (search rules)));
+    }
 
 pub returns : goal.returns
 returns c =
@@ -70,8 +72,11 @@ returns c =
     let d = c.pass-passed.ensures in
     let r = view c.pass-passed.new.image in
     let after = d.image.view ∙ ap (λ (n : ℕ). after_ticks n v) asked ∙ spanned a q v c.requires.call_value in
-    let whole = whole-outcome v q fine given after in record { report = c.told-2.ensures
+    let whole = whole-outcome v q fine given after in record {
+      report = c.told-2.ensures
           ∙ ap₂ (λ (w x : ℕ). record { answer = a; chosen = r.chosen; clock = r.clock; wakeups = w; next = x })
           (d.wakeups ∙ ap (λ (n : ℕ). wakeups_in n v) asked) d.next
           ∙ reported a (wakeups_in (span a q) v) r (outcomes.told v q fine given)
-          ∙ ap (λ (o : Outcome). o.report) (sym whole); image = rw whole (laid d.image.whole (bytes_of c.pass-passed.new.image (search rules))) }
+          ∙ ap (λ (o : Outcome). o.report) (sym whole);
+      image = rw whole (laid d.image.whole (bytes_of c.pass-passed.new.image (search rules)));
+    }

@@ -1,5 +1,4 @@
 -- The report is read off the image.
-use Rattle.std.proofs.Common.{rules}
 use Rattle.timed.proofs.told.Goals as goal
 
 pub returns : goal.returns

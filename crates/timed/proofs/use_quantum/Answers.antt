@@ -1,5 +1,5 @@
 -- By its three ways: it ends in the tick, it lasts longer, or none counts.
-use Rattle.std.proofs.Common.{◌≡◌, ℕ, ◌+◌, ◌<◌, sym, ◌∙◌, arith, rules}
+use Rattle.std.proofs.Common.{◌≡◌, ℕ, ◌+◌, ◌<◌, sym, ◌∙◌, arith}
 use Rattle.model.specs.State.{State}
 use Rattle.model.specs.Layout.{view}
 use Rattle.rules.specs.Counting.{never}

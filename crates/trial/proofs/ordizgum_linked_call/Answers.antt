@@ -4,7 +4,6 @@ use mathlib.Core.List.{List}
 use Prim.Native.Nat.{ℕ}
 use lib.ListN.{get_or}
 use Rattle.rules.specs.Reports.{report_numbers}
-use borrow.Author.Rules.{rules}
 use Rattle.trial.proofs.ordizgum_linked_call.Goals as goal
 
 pub returns : goal.returns

@@ -1,7 +1,6 @@
 -- Whether there was room is told by a number.
 use mathlib.Core.Path.{sym, ◌∙◌, ap}
 use Rattle.rules.specs.Reports.{zero_if}
-use borrow.Author.Rules.{rules}
 use Rattle.trial.proofs.ordizgum_linked_fresh.Goals as goal
 
 pub returns-then-fresh : goal.returns-then-fresh

@@ -3,11 +3,9 @@ use mathlib.Core.Path.{◌≡◌, refl, sym, ap, ◌∙◌}
 use mathlib.Core.Bool.{true, false}
 use mathlib.Core.List.{[], ◌∷◌}
 use Prim.Native.Nat.{ℕ}
-use borrow.Author.Tests.{not-true, not-false}
 use Rattle.model.specs.Layout.{sound_image}
 use Rattle.untimed.proofs.Laid.{sound-whole}
 use Rattle.in_place.specs.Kept.{next_told}
-use borrow.Author.Rules.{rules}
 use Rattle.trial.proofs.ordizgum_linked_next_wake_up.Goals as goal
 use Rattle.trial.proofs.ordizgum_linked_next_wake_up.Goals.{Else-not-is_sound}
 

@@ -1,4 +1,3 @@
-use borrow.Author.Rules.{rules}
 use Rattle.trial.proofs.ordizgum_linked_sound.Goals as goal
 
 pub returns-then-is_sound : goal.returns-then-is_sound

@@ -9,7 +9,6 @@ use Rattle.model.specs.Layout.{view}
 use Rattle.theorems.proofs.Numbered.{call-number}
 use Rattle.words.proofs.Does.{same_word}
 use Rattle.untimed.proofs.Laid.{view-sound, sound-whole}
-use borrow.Author.Rules.{rules}
 use Rattle.untimed.proofs.carry_out.Goals as goal
 
 -- of the calls' numbers all but the last are below it

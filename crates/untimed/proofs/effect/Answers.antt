@@ -6,7 +6,6 @@ use Rattle.model.specs.Layout.{view}
 use Rattle.theorems.specs.Effect.{effect_of}
 use Rattle.theorems.proofs.Numbered.{allowed, call-number}
 use Rattle.words.proofs.Accepted.{does_effect}
-use borrow.Author.Rules.{rules}
 use Rattle.untimed.proofs.effect.Goals as goal
 use Rattle.untimed.proofs.effect.Goals.{Else-call-lt-SCHEDULING}
 

@@ -7,7 +7,6 @@ use Rattle.model.specs.Layout.{view}
 use Rattle.theorems.proofs.Numbered.{performed}
 use Rattle.words.proofs.Does.{and_then, same_word}
 use Rattle.words.proofs.Unmoved.{chosen_does}
-use borrow.Author.Rules.{rules}
 use Rattle.untimed.proofs.perform.Goals as goal
 
 pub returns : goal.returns

@@ -18,12 +18,12 @@ returns c =
     let whole = whole-outcome (view b) q fine c.answer-answer.ensures d.view in
     record {
       report = rw (
-          whole,
-          told (view b) q fine c.answer-answer.ensures,
-          ← no_ticks (view b) q fine c.answer-answer.ensures c.requires.fact,
-          c.chosen.ensures,
-          c.clock.ensures,
-          c.next_wake_up.ensures,
-        );
+        whole,
+        told (view b) q fine c.answer-answer.ensures,
+        ← no_ticks (view b) q fine c.answer-answer.ensures c.requires.fact,
+        c.chosen.ensures,
+        c.clock.ensures,
+        c.next_wake_up.ensures,
+      );
       image = rw whole (laid d.whole (bytes_of c.carry_out.new.image (search rules)));
     }

@@ -10,7 +10,6 @@ use Rattle.model.specs.Calls.{answers, unused_id, unused_bcd}
 use Rattle.model.specs.Effects.{scheduling_effect}
 use Rattle.theorems.proofs.Allowing.{not-due}
 use Rattle.words.proofs.Accepted.{unmoved_does}
-use borrow.Author.Rules.{rules}
 use Rattle.effects.proofs.scheduling.scheduling.Goals as goal
 use Rattle.effects.proofs.scheduling.scheduling.Goals.{Start}
 

@@ -19,7 +19,6 @@ use Rattle.theorems.proofs.Running.{unset}
 use Rattle.fields.specs.Fields.{Alters}
 use Rattle.words.specs.Images.{Off, Does}
 use Rattle.words.proofs.Does.{and_then, same_word, off-after}
-use borrow.Author.Rules.{rules}
 use Rattle.effects.proofs.Standing.{named, stored_does}
 use Rattle.effects.proofs.threads.create_thread.Goals as goal
 use Rattle.effects.proofs.threads.create_thread.Goals.{Start}

@@ -6,7 +6,6 @@ use Rattle.model.specs.Calls.{calls, numbered, create_thread, start, stop, exit,
 use Rattle.theorems.specs.Effect.{effect_of}
 use Rattle.theorems.proofs.Numbered.{allowed}
 use Rattle.words.proofs.Accepted.{does_effect}
-use borrow.Author.Rules.{rules}
 use Rattle.effects.proofs.threads.effect.Goals as goal
 use Rattle.effects.proofs.threads.effect.Goals.{In_default}
 

@@ -14,7 +14,6 @@ use Rattle.words.specs.Images.{Ready}
 use Rattle.words.proofs.Does.{and_then, same_word, given-still, left-off}
 use Rattle.words.proofs.Known.{ready_on}
 use Rattle.words.proofs.Accepted.{running}
-use borrow.Author.Rules.{rules}
 use Rattle.effects.proofs.Standing.{named, stored_does}
 use Rattle.effects.proofs.threads.exit.Goals as goal
 use Rattle.effects.proofs.threads.exit.Goals.{Start}

@@ -8,7 +8,6 @@ use Rattle.model.specs.Parts.{thread}
 use Rattle.model.specs.Words.{owns_any}
 use Rattle.model.specs.Effects.{new_current}
 use Rattle.model.specs.Layout.{view}
-use borrow.Author.Rules.{rules}
 use Rattle.effects.proofs.threads.new_current.Goals as goal
 
 owned : (owner : Bool) (base current : ℕ) → owner ≡ true → base < current → current ≡ cond owner (max base current) base

@@ -15,7 +15,6 @@ use Rattle.model.specs.Layout.{view}
 use Rattle.theorems.proofs.Allowing.{not-due, thread-named}
 use Rattle.words.specs.Images.{Given}
 use Rattle.words.proofs.Does.{rewritten_does, and_then, same_word, given-still}
-use borrow.Author.Rules.{rules}
 use Rattle.effects.proofs.Standing.{named}
 use Rattle.effects.proofs.threads.set_priority.Goals as goal
 use Rattle.effects.proofs.threads.set_priority.Goals.{Start}

@@ -10,7 +10,6 @@ use Rattle.model.specs.Calls.{answers, unused_bcd}
 use Rattle.model.specs.Effects.{set_quantum_effect}
 use Rattle.theorems.proofs.Allowing.{not-due, thread-named}
 use Rattle.words.proofs.Does.{rewritten_does}
-use borrow.Author.Rules.{rules}
 use Rattle.effects.proofs.threads.set_quantum.Goals as goal
 use Rattle.effects.proofs.threads.set_quantum.Goals.{Start}
 

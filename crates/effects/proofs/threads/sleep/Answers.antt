@@ -8,7 +8,6 @@ use Rattle.model.specs.Layout.{view}
 use Rattle.theorems.proofs.Allowing.{not-due}
 use Rattle.words.proofs.Does.{same_word}
 use Rattle.words.proofs.Accepted.{running}
-use borrow.Author.Rules.{rules}
 use Rattle.effects.proofs.threads.sleep.Goals as goal
 
 pub start_to_sleep-requires : goal.start_to_sleep-requires

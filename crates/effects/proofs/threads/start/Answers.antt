@@ -11,7 +11,6 @@ use Rattle.model.specs.Layout.{view}
 use Rattle.theorems.proofs.Allowing.{not-due, thread-named}
 use Rattle.words.specs.Images.{On}
 use Rattle.words.proofs.Known.{listed-on}
-use borrow.Author.Rules.{rules}
 use Rattle.effects.proofs.threads.start.Goals as goal
 use Rattle.effects.proofs.threads.start.Goals.{Start}
 

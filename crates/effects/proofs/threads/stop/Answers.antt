@@ -8,7 +8,6 @@ use Rattle.theorems.proofs.Allowing.{not-due, thread-named}
 use Rattle.words.specs.Images.{Ready}
 use Rattle.words.proofs.Does.{and_then, left-off}
 use Rattle.words.proofs.Known.{ready_on}
-use borrow.Author.Rules.{rules}
 use Rattle.effects.proofs.Standing.{named}
 use Rattle.effects.proofs.threads.stop.Goals as goal
 use Rattle.effects.proofs.threads.stop.Goals.{Start}

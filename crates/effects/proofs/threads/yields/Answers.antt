@@ -10,7 +10,6 @@ use Rattle.words.specs.Images.{Ready}
 use Rattle.words.proofs.Does.{same_word}
 use Rattle.words.proofs.Known.{ready_on}
 use Rattle.words.proofs.Accepted.{running}
-use borrow.Author.Rules.{rules}
 use Rattle.effects.proofs.Standing.{named}
 use Rattle.effects.proofs.threads.yields.Goals as goal
 use Rattle.effects.proofs.threads.yields.Goals.{Start}

@@ -5,7 +5,6 @@ use Rattle.model.specs.Calls.{calls, numbered, start_timer, stop_timer}
 use Rattle.theorems.specs.Effect.{effect_of}
 use Rattle.theorems.proofs.Numbered.{allowed}
 use Rattle.words.proofs.Accepted.{does_effect}
-use borrow.Author.Rules.{rules}
 use Rattle.effects.proofs.timers.effect.Goals as goal
 use Rattle.effects.proofs.timers.effect.Goals.{Else-q-eq-START_TIMER}
 

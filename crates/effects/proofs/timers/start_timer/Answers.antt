@@ -22,7 +22,6 @@ use Rattle.theorems.proofs.Allowing.{not-due}
 use Rattle.theorems.proofs.Running.{named}
 use Rattle.words.proofs.Accepted.{unmoved_does}
 use Rattle.words.proofs.Does.{same_word}
-use borrow.Author.Rules.{rules}
 use Rattle.effects.proofs.timers.start_timer.Goals as goal
 
 -- an action's object and mask by its kind

@@ -6,7 +6,6 @@ use Rattle.model.specs.Calls.{answers}
 use Rattle.model.specs.Effects.{stop_timer_effect}
 use Rattle.theorems.proofs.Allowing.{not-due}
 use Rattle.words.proofs.Accepted.{unmoved_does}
-use borrow.Author.Rules.{rules}
 use Rattle.effects.proofs.timers.stop_timer.Goals as goal
 use Rattle.effects.proofs.timers.stop_timer.Goals.{Start}
 

@@ -1,5 +1,4 @@
 use Rattle.fields.proofs.Parts.{part-whole, flags-part}
-use borrow.Author.Rules.{rules}
 use Rattle.fields.proofs.flags.flag_object.Goals as goal
 
 pub returns : goal.returns

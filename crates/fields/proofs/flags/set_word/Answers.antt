@@ -2,7 +2,6 @@ use mathlib.Core.Path.{refl}
 use lib.Dec.{lit<}
 use Rattle.model.specs.Parts.{with_word}
 use Rattle.fields.proofs.Parts.{part_written, flags-part}
-use borrow.Author.Rules.{rules}
 use Rattle.fields.proofs.flags.set_word.Goals as goal
 
 pub returns : goal.returns

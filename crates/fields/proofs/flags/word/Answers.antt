@@ -2,7 +2,6 @@ use mathlib.Core.Path.{refl, ◌∙◌}
 use lib.Dec.{lit<}
 use Rattle.model.specs.declared.tables.Flags.{Flags}
 use Rattle.fields.proofs.Parts.{part_read, flags-part}
-use borrow.Author.Rules.{rules}
 use Rattle.fields.proofs.flags.word.Goals as goal
 
 pub returns : goal.returns

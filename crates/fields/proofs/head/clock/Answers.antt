@@ -1,7 +1,6 @@
 use mathlib.Core.Path.{◌∙◌}
 use Rattle.sequences.proofs.Numbers.{four_number}
 use Rattle.model.specs.Layout.{view}
-use borrow.Author.Rules.{rules}
 use Rattle.fields.proofs.head.clock.Goals as goal
 
 pub returns : goal.returns

@@ -2,7 +2,6 @@ use mathlib.Core.Path.{refl}
 use lib.Dec.{lit<}
 use Rattle.model.specs.Parts.{with_off}
 use Rattle.fields.proofs.Parts.{head_written}
-use borrow.Author.Rules.{rules}
 use Rattle.fields.proofs.head.set_off.Goals as goal
 
 pub returns : goal.returns

@@ -2,7 +2,6 @@ use mathlib.Core.Path.{refl}
 use lib.Dec.{lit<}
 use Rattle.model.specs.declared.tables.Mutex.{Mutex}
 use Rattle.fields.proofs.Parts.{part_read, mutexes-part}
-use borrow.Author.Rules.{rules}
 use Rattle.fields.proofs.mutexes.created.Goals as goal
 
 pub returns : goal.returns

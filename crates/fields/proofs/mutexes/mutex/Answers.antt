@@ -1,5 +1,4 @@
 use Rattle.fields.proofs.Parts.{part-whole, mutexes-part}
-use borrow.Author.Rules.{rules}
 use Rattle.fields.proofs.mutexes.mutex.Goals as goal
 
 pub returns : goal.returns

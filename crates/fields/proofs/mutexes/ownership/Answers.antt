@@ -6,7 +6,6 @@ use Rattle.sequences.specs.Records.{start}
 use Rattle.model.specs.declared.tables.Mutex.{Mutex}
 use Rattle.model.specs.Layout.{mutexes_at}
 use Rattle.fields.proofs.Parts.{part_read, mutexes-part, first_three}
-use borrow.Author.Rules.{rules}
 use Rattle.fields.proofs.mutexes.ownership.Goals as goal
 
 pub returns : goal.returns

@@ -5,7 +5,6 @@ use lib.ListN.{length-set}
 use Rattle.model.specs.declared.tables.Mutex.{Mutex}
 use Rattle.model.specs.Parts.{with_owner}
 use Rattle.fields.proofs.Parts.{part_written, part_twice, still-named, mutexes-part}
-use borrow.Author.Rules.{rules}
 use Rattle.fields.proofs.mutexes.set_owner.Goals as goal
 
 pub bounds-image-o-2 : goal.bounds-image-o-2

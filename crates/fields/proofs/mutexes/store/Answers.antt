@@ -1,5 +1,4 @@
 use Rattle.fields.proofs.Parts.{part_stored, mutexes-part}
-use borrow.Author.Rules.{rules}
 use Rattle.fields.proofs.mutexes.store.Goals as goal
 
 pub returns : goal.returns

@@ -2,7 +2,6 @@ use mathlib.Core.Path.{refl}
 use lib.Dec.{lit<}
 use Rattle.model.specs.declared.tables.Semaphore.{Semaphore}
 use Rattle.fields.proofs.Parts.{part_read, semaphores-part}
-use borrow.Author.Rules.{rules}
 use Rattle.fields.proofs.semaphores.created.Goals as goal
 
 pub returns : goal.returns

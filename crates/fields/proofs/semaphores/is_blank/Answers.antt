@@ -13,7 +13,6 @@ use Rattle.model.specs.declared.tables.Semaphore.{Semaphore}
 use Rattle.model.specs.Layout.{semaphores_at}
 use Rattle.fields.specs.Fields.{zero_semaphore}
 use Rattle.fields.proofs.Parts.{part_read, semaphores-part, both_zero, zero_alike}
-use borrow.Author.Rules.{rules}
 use Rattle.fields.proofs.semaphores.is_blank.Goals as goal
 
 all_zero : (k : ℕ) (s : List ℕ) (x : Semaphore) (n : ℕ) → n ≡ four_at k s → get_or s k 0 ≡ x.created → two_at (k + 1) s ≡ x.count

@@ -5,7 +5,6 @@ use Rattle.sequences.specs.Records.{start}
 use Rattle.model.specs.declared.tables.Semaphore.{Semaphore}
 use Rattle.model.specs.Layout.{semaphores_at}
 use Rattle.fields.proofs.Parts.{part_read, semaphores-part, two_and_two}
-use borrow.Author.Rules.{rules}
 use Rattle.fields.proofs.semaphores.levels.Goals as goal
 
 pub returns : goal.returns

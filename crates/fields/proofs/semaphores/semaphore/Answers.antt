@@ -1,5 +1,4 @@
 use Rattle.fields.proofs.Parts.{part-whole, semaphores-part}
-use borrow.Author.Rules.{rules}
 use Rattle.fields.proofs.semaphores.semaphore.Goals as goal
 
 pub returns : goal.returns

@@ -2,7 +2,6 @@ use mathlib.Core.Path.{refl}
 use lib.Dec.{lit<}
 use Rattle.model.specs.Parts.{with_count}
 use Rattle.fields.proofs.Parts.{part_written, semaphores-part}
-use borrow.Author.Rules.{rules}
 use Rattle.fields.proofs.semaphores.set_count.Goals as goal
 
 pub returns : goal.returns

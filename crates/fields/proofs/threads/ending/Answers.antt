@@ -11,7 +11,6 @@ use Rattle.sequences.specs.Records.{start}
 use Rattle.model.specs.declared.tables.Thread.{Thread}
 use Rattle.model.specs.Layout.{threads_at}
 use Rattle.fields.proofs.Parts.{part_read, threads-part}
-use borrow.Author.Rules.{rules}
 use Rattle.fields.proofs.threads.ending.Goals as goal
 
 side_by_side : (k : ℕ) (s : List ℕ) {x y z : ℕ} → get_or s (k + 11) 0 ≡ x → two_at (k + 12) s ≡ y → get_or s (k + 14) 0 ≡ z

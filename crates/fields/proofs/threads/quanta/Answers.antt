@@ -5,7 +5,6 @@ use Rattle.sequences.specs.Records.{start}
 use Rattle.model.specs.declared.tables.Thread.{Thread}
 use Rattle.model.specs.Layout.{threads_at}
 use Rattle.fields.proofs.Parts.{part_read, threads-part, two_and_two}
-use borrow.Author.Rules.{rules}
 use Rattle.fields.proofs.threads.quanta.Goals as goal
 
 pub returns : goal.returns

@@ -2,7 +2,6 @@ use mathlib.Core.Path.{refl, ◌∙◌}
 use lib.Dec.{lit<}
 use Rattle.model.specs.declared.tables.Thread.{Thread}
 use Rattle.fields.proofs.Parts.{part_read, threads-part}
-use borrow.Author.Rules.{rules}
 use Rattle.fields.proofs.threads.quantum.Goals as goal
 
 pub returns : goal.returns

@@ -2,7 +2,6 @@ use mathlib.Core.Path.{refl}
 use lib.Dec.{lit<}
 use Rattle.model.specs.Parts.{with_current}
 use Rattle.fields.proofs.Parts.{part_written, threads-part}
-use borrow.Author.Rules.{rules}
 use Rattle.fields.proofs.threads.set_current.Goals as goal
 
 pub returns : goal.returns

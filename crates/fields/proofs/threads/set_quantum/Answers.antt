@@ -3,7 +3,6 @@ use lib.Dec.{lit<}
 use Rattle.model.specs.declared.tables.Thread.{Thread}
 use Rattle.model.specs.Parts.{with_quantum, with_left}
 use Rattle.fields.proofs.Parts.{part_written, part_twice, threads-part}
-use borrow.Author.Rules.{rules}
 use Rattle.fields.proofs.threads.set_quantum.Goals as goal
 
 pub returns : goal.returns

@@ -1,7 +1,6 @@
 use Rattle.model.specs.declared.tables.Thread.{Thread}
 use Rattle.model.specs.Parts.{with_limit, with_result, with_wait}
 use Rattle.fields.proofs.Parts.{part_twice, threads-part}
-use borrow.Author.Rules.{rules}
 use Rattle.fields.proofs.threads.set_wait.Goals as goal
 
 pub returns : goal.returns

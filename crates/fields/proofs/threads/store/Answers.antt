@@ -1,5 +1,4 @@
 use Rattle.fields.proofs.Parts.{part_stored, threads-part}
-use borrow.Author.Rules.{rules}
 use Rattle.fields.proofs.threads.store.Goals as goal
 
 pub returns : goal.returns

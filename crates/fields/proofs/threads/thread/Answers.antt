@@ -1,5 +1,4 @@
 use Rattle.fields.proofs.Parts.{part-whole, threads-part}
-use borrow.Author.Rules.{rules}
 use Rattle.fields.proofs.threads.thread.Goals as goal
 
 pub returns : goal.returns

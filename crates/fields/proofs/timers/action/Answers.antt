@@ -11,7 +11,6 @@ use Rattle.sequences.specs.Records.{start}
 use Rattle.model.specs.declared.tables.Timer.{Timer}
 use Rattle.model.specs.Layout.{timers_at}
 use Rattle.fields.proofs.Parts.{part_read, timers-part}
-use borrow.Author.Rules.{rules}
 use Rattle.fields.proofs.timers.action.Goals as goal
 
 last-five : (k : ℕ) (s : List ℕ) → ((j : ℕ) → get_or s j 0 < 256) → {x y z u : ℕ} → get_or s (k + 8) 0 ≡ x → get_or s (k + 9) 0 ≡ y

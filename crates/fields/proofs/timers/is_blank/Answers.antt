@@ -13,7 +13,6 @@ use Rattle.model.specs.declared.tables.Timer.{Timer}
 use Rattle.model.specs.Sound.{zero_timer}
 use Rattle.model.specs.Layout.{timers_at}
 use Rattle.fields.proofs.Parts.{part_read, timers-part, both_zero, zero_alike}
-use borrow.Author.Rules.{rules}
 use Rattle.fields.proofs.timers.is_blank.Goals as goal
 
 abbrev sum : Timer → ℕ

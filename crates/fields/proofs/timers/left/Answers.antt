@@ -2,7 +2,6 @@ use mathlib.Core.Path.{refl, ◌∙◌}
 use lib.Dec.{lit<}
 use Rattle.model.specs.declared.tables.Timer.{Timer}
 use Rattle.fields.proofs.Parts.{part_read, timers-part}
-use borrow.Author.Rules.{rules}
 use Rattle.fields.proofs.timers.left.Goals as goal
 
 pub returns : goal.returns

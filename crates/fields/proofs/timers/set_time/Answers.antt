@@ -3,7 +3,6 @@ use lib.Dec.{lit<}
 use Rattle.model.specs.declared.tables.Timer.{Timer}
 use Rattle.model.specs.Parts.{with_time}
 use Rattle.fields.proofs.Parts.{part_written, part_twice, still-named, timers-part}
-use borrow.Author.Rules.{rules}
 use Rattle.fields.proofs.timers.set_time.Goals as goal
 
 pub returns : goal.returns

@@ -1,5 +1,4 @@
 use Rattle.fields.proofs.Parts.{part_stored, timers-part}
-use borrow.Author.Rules.{rules}
 use Rattle.fields.proofs.timers.store.Goals as goal
 
 pub returns : goal.returns

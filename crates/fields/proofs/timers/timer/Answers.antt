@@ -1,5 +1,4 @@
 use Rattle.fields.proofs.Parts.{part-whole, timers-part}
-use borrow.Author.Rules.{rules}
 use Rattle.fields.proofs.timers.timer.Goals as goal
 
 pub returns : goal.returns

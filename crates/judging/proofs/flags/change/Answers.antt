@@ -3,7 +3,6 @@ use mathlib.Core.Path.{◌≡◌}
 use Rattle.model.specs.Answers.{first-due}
 use Rattle.model.specs.Calls.{set, answers}
 use Rattle.model.specs.Layout.{view}
-use borrow.Author.Rules.{rules}
 use Rattle.judging.proofs.flags.change.Goals as goal
 use Rattle.judging.proofs.flags.change.Goals.{After-first}
 

@@ -6,7 +6,6 @@ use native.Mathlib.Omega.{arith}
 use lib.Dec.{eqb, leb}
 use Rattle.model.specs.Ranges.{is_positive_16, fits_32}
 use Rattle.rules.proofs.InRange.{wait-fits}
-use borrow.Author.Rules.{rules}
 use Rattle.judging.proofs.flags.is_unmet.Goals as goal
 use Rattle.judging.proofs.flags.is_unmet.Goals.{Then-wait_fits}
 

@@ -7,7 +7,6 @@ use Rattle.model.specs.Ranges.{has_flags, is_positive_16, fits_32}
 use Rattle.model.specs.Calls.{answers, nobody_runs, scheduling_off}
 use Rattle.model.specs.Layout.{view}
 use Rattle.judging.proofs.Behind.{behind}
-use borrow.Author.Rules.{rules}
 use Rattle.judging.proofs.flags.wait.Goals as goal
 
 pub returns : goal.returns

@@ -4,7 +4,6 @@ use Rattle.model.specs.Calls.{calls, numbered}
 use Rattle.model.specs.Kernel.{judge}
 use Rattle.model.specs.Layout.{view}
 use Rattle.rules.proofs.ByNumber.{by_number}
-use borrow.Author.Rules.{rules}
 use Rattle.judging.proofs.mutexes.answer.Goals as goal
 
 pub returns-in-12 : goal.returns-in-12

@@ -1,7 +1,6 @@
 -- A semaphore that is there has an id below 8.
 use native.Mathlib.Omega.{arith}
 use Rattle.rules.proofs.InRange.{there_below}
-use borrow.Author.Rules.{rules}
 use Rattle.judging.proofs.semaphores.is_full.Goals as goal
 
 pub returns-then-o-lt8 : goal.returns-then-o-lt8

@@ -5,7 +5,6 @@ use Rattle.model.specs.Ranges.{has_semaphore}
 use Rattle.model.specs.Calls.{answers, unused_abcd}
 use Rattle.model.specs.Layout.{view}
 use Rattle.judging.proofs.Behind.{behind}
-use borrow.Author.Rules.{rules}
 use Rattle.judging.proofs.semaphores.post.Goals as goal
 
 pub returns : goal.returns

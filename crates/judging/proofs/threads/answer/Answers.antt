@@ -6,7 +6,6 @@ use Rattle.model.specs.Calls.{calls, numbered}
 use Rattle.model.specs.Kernel.{judge}
 use Rattle.model.specs.Layout.{view}
 use Rattle.rules.proofs.ByNumber.{by_number}
-use borrow.Author.Rules.{rules}
 use Rattle.judging.proofs.threads.answer.Goals as goal
 
 pub returns-in-1 : goal.returns-in-1

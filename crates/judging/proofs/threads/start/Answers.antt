@@ -1,6 +1,5 @@
 -- What is marked is what the model has as due.
 use Rattle.model.specs.Calls.{answers}
-use borrow.Author.Rules.{rules}
 use Rattle.judging.proofs.threads.start.Goals as goal
 
 pub returns : goal.returns

@@ -4,7 +4,6 @@ use Rattle.model.specs.Calls.{calls, numbered}
 use Rattle.model.specs.Kernel.{judge}
 use Rattle.model.specs.Layout.{view}
 use Rattle.rules.proofs.ByNumber.{by_number}
-use borrow.Author.Rules.{rules}
 use Rattle.judging.proofs.timers.answer.Goals as goal
 
 pub returns-then-q-eq-START_TIMER : goal.returns-then-q-eq-START_TIMER

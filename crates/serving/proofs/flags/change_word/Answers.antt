@@ -2,7 +2,6 @@ use mathlib.Core.Path.{◌≡◌, refl, sym, ◌∙◌}
 use mathlib.Core.List.{List, []}
 use Prim.Native.Nat.{ℕ, ◌<◌}
 use native.Mathlib.Omega.{arith}
-use lib.ListN.{length}
 use Rattle.sequences.specs.Links.{head_link}
 use Rattle.model.specs.State.{flags_list}
 use Rattle.model.specs.Parts.{list, alter_flags, with_word}
@@ -11,8 +10,7 @@ use Rattle.model.specs.Layout.{view}
 use Rattle.fields.specs.Fields.{Alters}
 use Rattle.words.specs.Images.{Whole}
 use Rattle.words.proofs.Accepted.{unmoved_does}
-use Rattle.serving.proofs.FlagWaiters.{Waking, ahead, turn_below, turn_on, waking_next, waking_closer, waking_done}
-use borrow.Author.Rules.{rules}
+use Rattle.serving.proofs.FlagWaiters.{Waking, turn_below, turn_on, waking_next, waking_closer, waking_done}
 use Rattle.serving.proofs.flags.change_word.Goals as goal
 
 module _ {b u : List ℕ} (w : Whole b) (o word : ℕ) (a : Alters b (alter_flags o (with_word word)) u) where

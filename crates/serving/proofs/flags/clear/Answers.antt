@@ -16,7 +16,6 @@ use Rattle.rules.proofs.InRange.{positive_fits}
 use Rattle.theorems.proofs.Allowing.{flags-named, not-due}
 use Rattle.words.specs.Images.{Does}
 use Rattle.words.proofs.Does.{same_word}
-use borrow.Author.Rules.{rules}
 use Rattle.serving.proofs.flags.clear.Goals as goal
 use Rattle.serving.proofs.flags.clear.Goals.{Start}
 

@@ -9,7 +9,6 @@ use Rattle.model.specs.Calls.{answers, unused_bcd}
 use Rattle.model.specs.Effects.{create_flags_effect}
 use Rattle.theorems.proofs.Allowing.{not-due}
 use Rattle.words.proofs.Accepted.{unmoved_does}
-use borrow.Author.Rules.{rules}
 use Rattle.serving.proofs.flags.create_flags.Goals as goal
 use Rattle.serving.proofs.flags.create_flags.Goals.{Start}
 

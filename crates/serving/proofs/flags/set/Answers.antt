@@ -9,7 +9,6 @@ use Rattle.model.specs.Calls.{answers, unused_bcd}
 use Rattle.model.specs.Effects.{set_effect}
 use Rattle.rules.proofs.InRange.{positive_fits}
 use Rattle.theorems.proofs.Allowing.{flags-named, not-due}
-use borrow.Author.Rules.{rules}
 use Rattle.serving.proofs.flags.set.Goals as goal
 use Rattle.serving.proofs.flags.set.Goals.{Start}
 

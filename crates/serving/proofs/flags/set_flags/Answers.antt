@@ -8,7 +8,6 @@ use Rattle.model.specs.Effects.{change_word, set_flags}
 use Rattle.model.specs.Layout.{view}
 use Rattle.words.specs.Images.{Does}
 use Rattle.words.proofs.Does.{same_word}
-use borrow.Author.Rules.{rules}
 use Rattle.serving.proofs.flags.set_flags.Goals as goal
 
 by_read : {b r : List ℕ} (o mask word : ℕ) → word ≡ (flag_object o (view b)).word

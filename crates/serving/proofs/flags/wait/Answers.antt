@@ -20,7 +20,6 @@ use Rattle.theorems.proofs.Allowing.{running_below, flags-named, not-due}
 use Rattle.words.specs.Images.{Whole, Does}
 use Rattle.words.proofs.Does.{rewritten_does, and_then, same_word}
 use Rattle.words.proofs.Accepted.{running}
-use borrow.Author.Rules.{rules}
 use Rattle.serving.proofs.flags.wait.Goals as goal
 use Rattle.serving.proofs.flags.wait.Goals.{Start}
 

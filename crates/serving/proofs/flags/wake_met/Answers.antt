@@ -9,7 +9,6 @@ use Rattle.model.specs.Layout.{view}
 use Rattle.theorems.specs.Meeting.{wake_met}
 use Rattle.words.proofs.Does.{rewritten_does, and_then, same_word}
 use Rattle.words.proofs.Known.{rewritten_on}
-use borrow.Author.Rules.{rules}
 use Rattle.serving.proofs.flags.wake_met.Goals as goal
 
 tested : (t : Thread) (mode mask word : ℕ) (b c : Bool) → mode ≡ t.mode → mask ≡ t.mask → b ≡ holds mode mask word → b ≡ c

@@ -25,7 +25,6 @@ use Rattle.theorems.proofs.Allowing.{steady, mutex-named, not-due}
 use Rattle.words.specs.Images.{Whole, Ready}
 use Rattle.words.proofs.Does.{rewritten_does, and_then, same_word}
 use Rattle.words.proofs.Accepted.{running, unmoved_does}
-use borrow.Author.Rules.{rules}
 use Rattle.serving.proofs.mutexes.claim.Goals as goal
 
 -- a mutex that its claimer owns, if anyone does, and that isn't full

@@ -6,7 +6,6 @@ use Rattle.model.specs.Calls.{answers}
 use Rattle.model.specs.Effects.{create_mutex_effect}
 use Rattle.theorems.proofs.Allowing.{not-due}
 use Rattle.words.proofs.Accepted.{unmoved_does}
-use borrow.Author.Rules.{rules}
 use Rattle.serving.proofs.mutexes.create_mutex.Goals as goal
 use Rattle.serving.proofs.mutexes.create_mutex.Goals.{Start}
 

@@ -5,7 +5,6 @@ use Rattle.model.specs.Calls.{calls, numbered, create_mutex, claim, release}
 use Rattle.theorems.specs.Effect.{effect_of}
 use Rattle.theorems.proofs.Numbered.{allowed}
 use Rattle.words.proofs.Accepted.{does_effect}
-use borrow.Author.Rules.{rules}
 use Rattle.serving.proofs.mutexes.effect.Goals as goal
 use Rattle.serving.proofs.mutexes.effect.Goals.{In_default}
 

@@ -5,7 +5,6 @@ use Rattle.model.specs.Words.{take_priority}
 use Rattle.model.specs.Effects.{fall}
 use Rattle.model.specs.Layout.{view}
 use Rattle.words.proofs.Does.{same_word}
-use borrow.Author.Rules.{rules}
 use Rattle.serving.proofs.mutexes.fall.Goals as goal
 
 pub returns : goal.returns

@@ -14,7 +14,6 @@ use Rattle.words.proofs.Does.{and_then, same_word}
 use Rattle.words.proofs.Accepted.{unmoved_does}
 use Rattle.words.proofs.Firsts.{none_first, one-first}
 use Rattle.words.proofs.Known.{first_on}
-use borrow.Author.Rules.{rules}
 use Rattle.serving.proofs.mutexes.hand_over.Goals as goal
 
 still-first : (b r : List ℕ) (o owner depth link : ℕ) → Whole b → o < 4 → Alters b (alter_mutex o (with_owner owner depth)) r

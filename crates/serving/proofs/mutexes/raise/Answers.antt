@@ -9,7 +9,6 @@ use Rattle.model.specs.Words.{take_priority}
 use Rattle.model.specs.Effects.{raise}
 use Rattle.model.specs.Layout.{view}
 use Rattle.words.proofs.Does.{same_word}
-use borrow.Author.Rules.{rules}
 use Rattle.serving.proofs.mutexes.raise.Goals as goal
 
 -- with what was read of the state

@@ -23,7 +23,6 @@ use Rattle.theorems.proofs.Priorities.{take_priority-ready}
 use Rattle.theorems.proofs.Running.{running-ready, running-waits}
 use Rattle.words.proofs.Does.{and_then, same_word}
 use Rattle.words.proofs.Accepted.{unmoved_does}
-use borrow.Author.Rules.{rules}
 use Rattle.serving.proofs.mutexes.release.Goals as goal
 
 module _ {q : Request} {s : State} (a : Allowed release q s) where

@@ -11,7 +11,6 @@ use Rattle.model.specs.Effects.{one_more}
 use Rattle.model.specs.Layout.{view}
 use Rattle.fields.proofs.Parts.{same_word}
 use Rattle.words.proofs.Altered.{unaltered}
-use borrow.Author.Rules.{rules}
 use Rattle.serving.proofs.semaphores.count_up.Goals as goal
 
 -- with what was read of the state

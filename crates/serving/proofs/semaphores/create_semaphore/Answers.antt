@@ -15,7 +15,6 @@ use Rattle.rules.proofs.InRange.{positive_fits}
 use Rattle.theorems.specs.Allowed.{Allowed}
 use Rattle.theorems.proofs.Allowing.{not-due}
 use Rattle.words.proofs.Accepted.{unmoved_does}
-use borrow.Author.Rules.{rules}
 use Rattle.serving.proofs.semaphores.create_semaphore.Goals as goal
 
 module _ {q : Request} {s : State} (a : Allowed create_semaphore q s) where

@@ -5,7 +5,6 @@ use Rattle.model.specs.Calls.{calls, numbered, create_semaphore, pend, post}
 use Rattle.theorems.specs.Effect.{effect_of}
 use Rattle.theorems.proofs.Numbered.{allowed}
 use Rattle.words.proofs.Accepted.{does_effect}
-use borrow.Author.Rules.{rules}
 use Rattle.serving.proofs.semaphores.effect.Goals as goal
 use Rattle.serving.proofs.semaphores.effect.Goals.{In_default}
 

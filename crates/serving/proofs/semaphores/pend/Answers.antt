@@ -18,7 +18,6 @@ use Rattle.theorems.proofs.Allowing.{semaphore-named, not-due}
 use Rattle.words.specs.Images.{Whole, Ready}
 use Rattle.words.proofs.Does.{rewritten_does, and_then, same_word}
 use Rattle.words.proofs.Accepted.{running, unmoved_does}
-use borrow.Author.Rules.{rules}
 use Rattle.serving.proofs.semaphores.pend.Goals as goal
 
 module _ {q : Request} {b : List ℕ} (w : Whole b) (a : Allowed pend q (view b)) where

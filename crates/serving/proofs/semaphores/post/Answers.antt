@@ -3,7 +3,6 @@ use mathlib.Core.Path.{refl}
 use Rattle.model.specs.Calls.{answers}
 use Rattle.model.specs.Effects.{post_effect}
 use Rattle.theorems.proofs.Allowing.{semaphore-named}
-use borrow.Author.Rules.{rules}
 use Rattle.serving.proofs.semaphores.post.Goals as goal
 
 pub post_semaphore-requires : goal.post_semaphore-requires

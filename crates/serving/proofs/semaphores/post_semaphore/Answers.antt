@@ -10,7 +10,6 @@ use Rattle.words.proofs.Does.{same_word}
 use Rattle.words.proofs.Accepted.{unmoved_does}
 use Rattle.words.proofs.Firsts.{none_first, one-first}
 use Rattle.words.proofs.Known.{first_on}
-use borrow.Author.Rules.{rules}
 use Rattle.serving.proofs.semaphores.post_semaphore.Goals as goal
 
 pub wake-requires : goal.wake-requires

@@ -8,7 +8,6 @@ use Rattle.model.specs.State.{State, nobody}
 use Rattle.model.specs.Ranges.{is_bit}
 use Rattle.model.specs.Words.{choice, is_ready}
 use Rattle.model.specs.Sound.{choice_fits}
-use borrow.Author.Rules.{rules}
 use Rattle.sound.proofs.choice.choice_fits.Goals as goal
 
 module _ (s : State) {off chosen : ℕ} (o : off ≡ s.off) (h : chosen ≡ s.chosen) where

@@ -6,7 +6,6 @@ use lib.Dec.{leb, ltb}
 use Rattle.model.specs.Layout.{view, lists_of}
 use Rattle.links.proofs.Marks.{mark-none}
 use Rattle.sound.proofs.Marks.{mark-front}
-use borrow.Author.Rules.{rules}
 use Rattle.sound.proofs.choice.is_ready.Goals as goal
 
 abbrev marked-ready : ℕ → Bool

@@ -6,7 +6,6 @@ use lib.Dec.{eqb}
 use Rattle.model.specs.declared.tables.Semaphore.{Semaphore}
 use Rattle.fields.specs.Fields.{zero_semaphore}
 use Rattle.sound.specs.Asked.{semaphore_asked}
-use borrow.Author.Rules.{rules}
 use Rattle.sound.proofs.objects.absent_fits.Goals as goal
 
 all-cond : (a b c d : Bool) → (a && (b && c)) && d ≡ cond a (b && (c && d)) false

@@ -1,17 +1,13 @@
 -- While it goes on, all flag objects before have passed.
-use mathlib.Core.Path.{◌≡◌, refl, sym, ◌∙◌, ap₂}
+use mathlib.Core.Path.{◌≡◌}
 use mathlib.Core.Bool.{Bool, true}
 use Prim.Native.Nat.{ℕ, ◌-◌, ◌≤◌}
-use native.Mathlib.Omega.{arith}
-use borrow.Author.Tests.{not-true, not-false}
 use Rattle.sequences.specs.Lists.{every_below}
-use Rattle.sequences.proofs.Stopping.{one_passes, one_fails}
 use Rattle.model.specs.State.{State, flags_list}
 use Rattle.model.specs.Parts.{flag_object}
 use Rattle.model.specs.Sound.{waited_for}
 use Rattle.model.specs.Layout.{view}
-use Rattle.sound.specs.Asked.{flags_asked, flag_objects_asked}
-use borrow.Author.Rules.{rules}
+use Rattle.sound.specs.Asked.{flags_asked}
 use Rattle.sound.proofs.objects.flag_objects_fit.Given as goal
 
 abbrev pub passes : State → ℕ → Bool

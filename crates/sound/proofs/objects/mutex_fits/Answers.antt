@@ -11,7 +11,6 @@ use Rattle.model.specs.declared.tables.Mutex.{Mutex}
 use Rattle.model.specs.Ranges.{is_bit}
 use Rattle.fields.specs.Fields.{ownership}
 use Rattle.sound.specs.Asked.{owner_asked, mutex_asked}
-use borrow.Author.Rules.{rules}
 use Rattle.sound.proofs.objects.mutex_fits.Goals as goal
 
 unowned : (o mark : ℕ) (x : Mutex) → ownership x ≤ 1 → {w waited : Bool} → w ≡ waited → not w ≡ mutex_asked o x waited mark

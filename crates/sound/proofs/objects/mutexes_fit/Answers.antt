@@ -1,18 +1,10 @@
 use mathlib.Core.Path.{◌≡◌, refl, sym}
-use mathlib.Core.Bool.{Bool, true}
-use mathlib.Core.List.{List}
-use Prim.Native.Nat.{ℕ, ◌-◌, ◌≤◌}
+use Prim.Native.Nat.{◌-◌}
 use native.Mathlib.Omega.{arith}
-use borrow.Author.Tests.{not-true, not-false}
 use Rattle.sequences.specs.Lists.{every_below}
 use Rattle.sequences.proofs.Stopping.{one_passes, one_fails}
-use lib.ListN.{get_or}
-use Rattle.model.specs.State.{State, mutex_list}
-use Rattle.model.specs.Parts.{mutex}
-use Rattle.model.specs.Sound.{waited_for}
 use Rattle.model.specs.Layout.{view}
-use Rattle.sound.specs.Asked.{mutex_asked, mutexes_asked}
-use borrow.Author.Rules.{rules}
+use Rattle.sound.specs.Asked.{mutexes_asked}
 use Rattle.sound.proofs.objects.mutexes_fit.Invariants.{passes}
 use Rattle.sound.proofs.objects.mutexes_fit.Goals as goal
 

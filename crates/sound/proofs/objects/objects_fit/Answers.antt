@@ -3,10 +3,8 @@ use mathlib.Core.Path.{◌≡◌}
 use mathlib.Core.Bool.{Bool, true, false}
 use mathlib.Core.List.{List}
 use Prim.Native.Nat.{ℕ}
-use borrow.Author.Tests.{not-true, not-false}
 use Rattle.model.specs.State.{State}
 use Rattle.sound.specs.Asked.{semaphores_asked, mutexes_asked, flag_objects_asked, timers_asked, objects_asked}
-use borrow.Author.Rules.{rules}
 use Rattle.sound.proofs.objects.objects_fit.Goals as goal
 
 module _ (marks : List ℕ) (s : State) where

@@ -3,7 +3,6 @@ use Prim.Native.Nat.{suc, ◌+◌}
 use native.Mathlib.Omega.{arith}
 use borrow.Author.Tests.{lt-ltb, le-ltb}
 use Rattle.sound.specs.Asked.{owner_asked}
-use borrow.Author.Rules.{rules}
 use Rattle.sound.proofs.objects.owner_fits.Goals as goal
 
 pub returns-then-i-ge-THREAD_COUNT : goal.returns-then-i-ge-THREAD_COUNT

@@ -1,16 +1,10 @@
 use mathlib.Core.Path.{◌≡◌, refl, sym}
-use mathlib.Core.Bool.{Bool, true}
-use Prim.Native.Nat.{ℕ, ◌-◌, ◌≤◌}
+use Prim.Native.Nat.{◌-◌}
 use native.Mathlib.Omega.{arith}
-use borrow.Author.Tests.{not-true, not-false}
 use Rattle.sequences.specs.Lists.{every_below}
 use Rattle.sequences.proofs.Stopping.{one_passes, one_fails}
-use Rattle.model.specs.State.{State, semaphore_list}
-use Rattle.model.specs.Parts.{semaphore}
-use Rattle.model.specs.Sound.{waited_for}
 use Rattle.model.specs.Layout.{view}
-use Rattle.sound.specs.Asked.{semaphore_asked, semaphores_asked}
-use borrow.Author.Rules.{rules}
+use Rattle.sound.specs.Asked.{semaphores_asked}
 use Rattle.sound.proofs.objects.semaphores_fit.Invariants.{passes}
 use Rattle.sound.proofs.objects.semaphores_fit.Goals as goal
 

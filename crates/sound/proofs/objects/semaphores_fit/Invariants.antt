@@ -1,17 +1,13 @@
 -- While it goes on, all semaphores before have passed.
-use mathlib.Core.Path.{◌≡◌, refl, sym}
+use mathlib.Core.Path.{◌≡◌}
 use mathlib.Core.Bool.{Bool, true}
 use Prim.Native.Nat.{ℕ, ◌-◌, ◌≤◌}
-use native.Mathlib.Omega.{arith}
-use borrow.Author.Tests.{not-true, not-false}
 use Rattle.sequences.specs.Lists.{every_below}
-use Rattle.sequences.proofs.Stopping.{one_passes, one_fails}
 use Rattle.model.specs.State.{State, semaphore_list}
 use Rattle.model.specs.Parts.{semaphore}
 use Rattle.model.specs.Sound.{waited_for}
 use Rattle.model.specs.Layout.{view}
-use Rattle.sound.specs.Asked.{semaphore_asked, semaphores_asked}
-use borrow.Author.Rules.{rules}
+use Rattle.sound.specs.Asked.{semaphore_asked}
 use Rattle.sound.proofs.objects.semaphores_fit.Given as goal
 
 abbrev pub passes : State → ℕ → Bool

@@ -1,6 +1,5 @@
 -- Each return is the definition with the test of the limit.
 use native.Mathlib.Omega.{arith}
-use borrow.Author.Rules.{rules}
 use borrow.Author.Tests.{lt-ltb, le-ltb}
 use Rattle.model.specs.Parts.{thread}
 use Rattle.model.specs.Layout.{view}

@@ -1,5 +1,4 @@
 -- A link back is one more than the id that it leads to.
-use borrow.Author.Rules.{rules}
 use borrow.Author.Tests.{eq-eqb, ne_eqb}
 use Rattle.sound.specs.Asked.{previous_link, behind_previous}
 use Rattle.sound.proofs.threads.is_behind.Goals as goal

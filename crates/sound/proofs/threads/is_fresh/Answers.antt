@@ -1,8 +1,6 @@
 -- The second test, where the first has passed.
 use mathlib.Core.Path.{◌≡◌, sym, ◌∙◌}
 use mathlib.Core.Bool.{true, false}
-use borrow.Author.Rules.{rules}
-use borrow.Author.Tests.{not-true, not-false}
 use Rattle.model.specs.Parts.{thread}
 use Rattle.model.specs.Layout.{view}
 use Rattle.sound.specs.Asked.{quantum_fits}

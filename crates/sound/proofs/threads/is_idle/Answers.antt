@@ -1,6 +1,5 @@
 -- Each return is the definition with the test of the limit.
 use mathlib.Core.Path.{sym, ◌∙◌}
-use borrow.Author.Rules.{rules}
 use borrow.Author.Tests.{eq-eqb, ne_eqb}
 use Rattle.model.specs.Parts.{thread}
 use Rattle.model.specs.Layout.{view}

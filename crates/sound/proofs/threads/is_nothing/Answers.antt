@@ -1,4 +1,3 @@
-use borrow.Author.Rules.{rules}
 use Rattle.sound.specs.Asked.{nothing_of}
 use Rattle.sound.proofs.threads.is_nothing.Goals as goal
 

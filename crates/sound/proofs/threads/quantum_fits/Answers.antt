@@ -4,7 +4,6 @@ use mathlib.Core.Bool.{true, false, not, ◌&&◌, or-true, or-false}
 use Prim.Native.Nat.{ℕ}
 use native.Mathlib.Decide.{ℕ_discrete}
 use native.Mathlib.Omega.{arith}
-use borrow.Author.Rules.{rules}
 use borrow.Author.Tests.{lt-ltb, le-leb, ne_eqb}
 use lib.Dec.{eqb, leb, ltb}
 use Rattle.sequences.proofs.Positive.{not_positive}

@@ -1,7 +1,6 @@
 -- Each return is the definition with the tests that led there.
 use Prim.Native.Nat.{◌-◌}
 use native.Mathlib.Omega.{arith}
-use borrow.Author.Rules.{rules}
 use borrow.Author.Tests.{eq-eqb, ne_eqb, lt-ltb, le-ltb}
 use Rattle.sound.specs.Asked.{rests_right}
 use Rattle.sound.proofs.threads.rests_right.Goals as goal

@@ -1,8 +1,7 @@
 -- Each return is the definition with the tests that led there.
 use mathlib.Core.Path.{◌≡◌, sym, ◌∙◌}
 use mathlib.Core.Bool.{true, and-false}
-use borrow.Author.Rules.{rules}
-use borrow.Author.Tests.{eq-eqb, ne_eqb, lt-ltb, not-true, not-false}
+use borrow.Author.Tests.{eq-eqb, ne_eqb, lt-ltb}
 use lib.Dec.{eqb}
 use Rattle.model.specs.declared.tables.Thread.{Thread}
 use Rattle.model.specs.State.{State}

@@ -1,16 +1,13 @@
 use mathlib.Core.Path.{◌≡◌, refl, sym}
-use mathlib.Core.Bool.{Bool, true}
 use mathlib.Core.List.{List}
 use Prim.Native.Nat.{ℕ, ◌-◌, ◌<◌, ◌≤◌}
 use native.Mathlib.Omega.{arith}
 use lib.ListN.{get_or}
-use borrow.Author.Rules.{rules}
-use borrow.Author.Tests.{not-true, not-false}
 use Rattle.sequences.specs.Lists.{every_below}
 use Rattle.sequences.proofs.Stopping.{one_passes, one_fails}
 use Rattle.model.specs.Layout.{lists_of}
 use Rattle.layout.proofs.Viewed.{many_linked}
-use Rattle.sound.specs.Asked.{Followed, thread_asked, threads_asked}
+use Rattle.sound.specs.Asked.{Followed, threads_asked}
 use Rattle.sound.proofs.Marks.{mark-most}
 use Rattle.sound.proofs.threads.threads_fit.Invariants.{asked-at}
 use Rattle.sound.proofs.threads.threads_fit.Goals as goal

@@ -2,7 +2,6 @@
 use mathlib.Core.Path.{sym, ap, ◌∙◌}
 use Prim.Native.Nat.{ℕ, ◌/◌, ◌%◌}
 use native.Mathlib.Omega.{arith}
-use borrow.Author.Rules.{rules}
 use Rattle.sequences.proofs.Numbers.{bytes_of}
 use Rattle.sequences.proofs.RecordsLaid.{Fits}
 use Rattle.model.specs.Parts.{timer}

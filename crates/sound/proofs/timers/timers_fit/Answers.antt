@@ -1,15 +1,10 @@
 use mathlib.Core.Path.{◌≡◌, refl, sym}
-use mathlib.Core.Bool.{Bool, true}
-use Prim.Native.Nat.{ℕ, ◌-◌, ◌≤◌}
+use Prim.Native.Nat.{◌-◌}
 use native.Mathlib.Omega.{arith}
-use borrow.Author.Tests.{not-true, not-false}
 use Rattle.sequences.specs.Lists.{every_below}
 use Rattle.sequences.proofs.Stopping.{one_passes, one_fails}
-use Rattle.model.specs.State.{State}
-use Rattle.model.specs.Parts.{timer}
 use Rattle.model.specs.Layout.{view}
-use Rattle.sound.specs.Asked.{timer_asked, timers_asked}
-use borrow.Author.Rules.{rules}
+use Rattle.sound.specs.Asked.{timers_asked}
 use Rattle.sound.proofs.timers.timers_fit.Invariants.{passes}
 use Rattle.sound.proofs.timers.timers_fit.Goals as goal
 

@@ -1,16 +1,12 @@
 -- While it goes on, all timers before have passed.
-use mathlib.Core.Path.{◌≡◌, refl, sym}
+use mathlib.Core.Path.{◌≡◌}
 use mathlib.Core.Bool.{Bool, true}
 use Prim.Native.Nat.{ℕ, ◌-◌, ◌≤◌}
-use native.Mathlib.Omega.{arith}
-use borrow.Author.Tests.{not-true, not-false}
 use Rattle.sequences.specs.Lists.{every_below}
-use Rattle.sequences.proofs.Stopping.{one_passes, one_fails}
 use Rattle.model.specs.State.{State}
 use Rattle.model.specs.Parts.{timer}
 use Rattle.model.specs.Layout.{view}
-use Rattle.sound.specs.Asked.{timer_asked, timers_asked}
-use borrow.Author.Rules.{rules}
+use Rattle.sound.specs.Asked.{timer_asked}
 use Rattle.sound.proofs.timers.timers_fit.Given as goal
 
 abbrev pub passes : State → ℕ → Bool

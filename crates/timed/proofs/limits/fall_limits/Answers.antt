@@ -1,5 +1,5 @@
 -- Where there is no limit at all no step does anything; else those before the first that still has one do nothing.
-use Rattle.std.proofs.Common.{false, sym, subst, rules}
+use Rattle.std.proofs.Common.{false, sym, subst}
 use Rattle.model.specs.State.{absent_thread}
 use Rattle.model.specs.Layout.{view}
 use Rattle.rules.specs.Counting.{never}
@@ -23,5 +23,10 @@ returns-then-end-from c =
 
 pub returns : goal.returns
 returns c =
-    let walked = c.leap_limits-walk.ensures in record { image = walked.image; nearest = walked.nearest; unmoved = walked.unmoved; from = subst (LimitsFrom c.limits_begin-first.result c.args.end) (sym walked.image.view)
-              (onward-from (limits-onward c.args.ticks (view c.args.image.now)) c.limits_begin-first.ensures) }
+    let walked = c.leap_limits-walk.ensures in record {
+      image = walked.image;
+      nearest = walked.nearest;
+      unmoved = walked.unmoved;
+      from = subst (LimitsFrom c.limits_begin-first.result c.args.end) (sym walked.image.view)
+          (onward-from (limits-onward c.args.ticks (view c.args.image.now)) c.limits_begin-first.ensures);
+    }

@@ -1,10 +1,8 @@
-use Rattle.std.proofs.Common.{ℕ, ◌-◌, min, sym, ap, ◌∙◌, inl, inr, arith, rules}
+use Rattle.std.proofs.Common.{ℕ, ◌-◌, min, sym, ap, ◌∙◌, arith}
 use Rattle.model.specs.State.{absent_thread}
-use Rattle.model.specs.Layout.{view}
 use Rattle.layout.proofs.Viewed.{many-threads}
 use Rattle.theorems.specs.Leap.{limit_leap}
-use Rattle.timed.specs.Limited.{Limited}
-use Rattle.timed.proofs.Walking.{Turn, Walking, walking_start, walking_next, walking_all}
+use Rattle.timed.proofs.Walking.{Turn, walking_start, walking_next, walking_all}
 use Rattle.timed.proofs.LimitWalk.{threads, limit, limit-idle, limit_ends, limit_runs, limited-next}
 use Rattle.timed.proofs.limits.leap_limits.Goals as goal
 use Rattle.timed.proofs.limits.leap_limits.Goals.{then-x-ticks, else-x-ticks}

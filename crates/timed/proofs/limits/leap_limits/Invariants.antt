@@ -1,12 +1,11 @@
 -- Thread by thread: each turn, by either way, is the model's.
-use Rattle.std.proofs.Common.{ℕ, ◌-◌, min, sym, ap, ◌∙◌, inl, inr, arith, rules}
+use Rattle.std.proofs.Common.{◌-◌}
 use Rattle.model.specs.State.{absent_thread}
 use Rattle.model.specs.Layout.{view}
-use Rattle.layout.proofs.Viewed.{many-threads}
 use Rattle.theorems.specs.Leap.{limit_leap}
 use Rattle.timed.specs.Limited.{Limited}
-use Rattle.timed.proofs.Walking.{Turn, Walking, walking_start, walking_next, walking_all}
-use Rattle.timed.proofs.LimitWalk.{threads, limit, limit-idle, limit_ends, limit_runs, limited-next}
+use Rattle.timed.proofs.Walking.{Walking}
+use Rattle.timed.proofs.LimitWalk.{threads, limit}
 use Rattle.timed.proofs.limits.leap_limits.Given as goal
 
 abbrev pub invariant-loop-i : goal.invariant-loop-i

@@ -1,6 +1,5 @@
 -- The list that it stands on tells whether it sleeps, and the result goes by that; where it heads the sleep list, no list is searched for.
 use Rattle.timed.proofs.Sleepers.{first_sleeper, first_out, waiter-on, sleeper_out, waiter_out}
-use Rattle.std.proofs.Common.{rules}
 use Rattle.timed.proofs.limits.run_out.Goals as goal
 
 pub wake-requires : goal.wake-requires

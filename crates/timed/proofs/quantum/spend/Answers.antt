@@ -1,5 +1,5 @@
 -- Where the quantum counts somebody runs, and what is left of its quantum is less.
-use Rattle.std.proofs.Common.{◌≡◌, ℕ, ◌-◌, ◌≤◌, true, List, refl, ap, ◌∙◌, rules}
+use Rattle.std.proofs.Common.{◌≡◌, ℕ, ◌-◌, ◌≤◌, true, List, refl, ap, ◌∙◌}
 use Rattle.sequences.specs.Lists.{alter}
 use Rattle.sequences.proofs.Places.{alter_alike}
 use Rattle.model.specs.declared.tables.Thread.{Thread}

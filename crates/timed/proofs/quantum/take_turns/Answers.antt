@@ -1,6 +1,6 @@
 -- After the turn the first link of the list is read: it leads to who is chosen next. Its quantum is renewed, and counts if it has one, since the list
 -- is shared as before.
-use Rattle.std.proofs.Common.{◌≡◌, ℕ, ◌+◌, ◌-◌, ◌<◌, ◌≤◌, true, List, length, get_or, sym, refl, ap, ◌∙◌, arith, rules}
+use Rattle.std.proofs.Common.{◌≡◌, ℕ, ◌+◌, ◌-◌, ◌<◌, ◌≤◌, true, List, length, get_or, sym, refl, ap, ◌∙◌, arith}
 use Rattle.sequences.specs.Links.{head_link}
 use Rattle.model.specs.State.{State}
 use Rattle.model.specs.Parts.{thread, ready_list, with_chosen, with_left, alter_thread}
@@ -84,8 +84,11 @@ set_left-requires c =
 
 pub returns : goal.returns
 returns c =
-    record { image = taken (c.requires.whole, c.requires.image_value) c.chosen-c.ensures c.current-p.ensures c.turn_over.ensures
-          c.quantum-all.ensures c.set_left.ensures c.set_chosen.ensures; quantum = c.place.ensures
+    record {
+      image = taken (c.requires.whole, c.requires.image_value) c.chosen-c.ensures c.current-p.ensures c.turn_over.ensures
+          c.quantum-all.ensures c.set_left.ensures c.set_chosen.ensures;
+      quantum = c.place.ensures
           ∙ ap place
           (runs (c.requires.whole, c.requires.image_value) c.chosen-c.ensures c.current-p.ensures c.turn_over.ensures
-          c.quantum-all.ensures c.set_left.ensures c.set_chosen.ensures) }
+          c.quantum-all.ensures c.set_left.ensures c.set_chosen.ensures);
+    }

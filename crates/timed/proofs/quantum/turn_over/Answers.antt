@@ -1,5 +1,5 @@
 -- Who runs is ready, and stands on the list of its current priority still when its quantum is renewed.
-use Rattle.std.proofs.Common.{◌≡◌, ℕ, true, List, refl, ap, ◌∙◌, rules}
+use Rattle.std.proofs.Common.{◌≡◌, ℕ, true, List, refl, ap, ◌∙◌}
 use Rattle.model.specs.Parts.{thread, with_left, alter_thread, refilled}
 use Rattle.model.specs.Words.{is_ready, become_ready, choice}
 use Rattle.model.specs.Tick.{quantum_counts}

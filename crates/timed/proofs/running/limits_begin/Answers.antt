@@ -1,7 +1,6 @@
 use Rattle.std.proofs.Common.{◌≡◌, ◌-◌, ◌<◌, sym, ◌∙◌, arith}
 use Rattle.model.specs.Parts.{thread}
 use Rattle.model.specs.Layout.{view}
-use Rattle.timed.specs.Running.{LimitsFrom}
 use Rattle.timed.proofs.Outside.{one_higher}
 use Rattle.timed.proofs.running.limits_begin.Goals as goal
 use Rattle.timed.proofs.running.limits_begin.Goals.{In-loop-i}

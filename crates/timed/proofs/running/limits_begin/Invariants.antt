@@ -1,9 +1,7 @@
 -- From the old beginning up: those passed have no limit either.
-use Rattle.std.proofs.Common.{◌≡◌, ◌-◌, ◌<◌, sym, ◌∙◌, arith}
-use Rattle.model.specs.Parts.{thread}
+use Rattle.std.proofs.Common.{◌-◌}
 use Rattle.model.specs.Layout.{view}
 use Rattle.timed.specs.Running.{LimitsFrom}
-use Rattle.timed.proofs.Outside.{one_higher}
 use Rattle.timed.proofs.running.limits_begin.Given as goal
 
 abbrev pub invariant-loop-i : goal.invariant-loop-i

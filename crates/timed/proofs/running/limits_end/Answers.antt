@@ -1,10 +1,9 @@
-use Rattle.std.proofs.Common.{◌≡◌, sym, refl, ◌∙◌, arith, rules}
+use Rattle.std.proofs.Common.{◌≡◌, sym, refl, ◌∙◌, arith}
 use Rattle.model.specs.declared.tables.Thread.{Thread}
 use Rattle.model.specs.State.{absent_thread}
 use Rattle.model.specs.Parts.{thread}
 use Rattle.model.specs.Layout.{view}
 use Rattle.layout.proofs.Viewed.{many-threads}
-use Rattle.timed.specs.Running.{LimitsFrom}
 use Rattle.timed.proofs.Outside.{one_lower, past_end}
 use Rattle.timed.proofs.running.limits_end.Goals as goal
 

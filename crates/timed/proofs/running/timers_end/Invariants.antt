@@ -1,12 +1,6 @@
 -- From the last timer down: those passed stand at 0.
-use Rattle.std.proofs.Common.{◌≡◌, sym, refl, ◌∙◌, arith, rules}
-use Rattle.model.specs.declared.tables.Timer.{Timer}
-use Rattle.model.specs.State.{unused_timer}
-use Rattle.model.specs.Parts.{timer}
 use Rattle.model.specs.Layout.{view}
-use Rattle.layout.proofs.Viewed.{many_timers}
 use Rattle.timed.specs.Running.{TimersTo}
-use Rattle.timed.proofs.Outside.{one_lower, past_end}
 use Rattle.timed.proofs.running.timers_end.Given as goal
 
 abbrev pub invariant-loop-o : goal.invariant-loop-o

@@ -1,5 +1,5 @@
 -- First the timers, which leaves the threads as they were, then the limits.
-use Rattle.std.proofs.Common.{ℕ, List, sym, subst, rules}
+use Rattle.std.proofs.Common.{ℕ, List, sym, subst}
 use Rattle.model.specs.Layout.{view}
 use Rattle.words.specs.Images.{Does}
 use Rattle.words.proofs.Does.{and_then}

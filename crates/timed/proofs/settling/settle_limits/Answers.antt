@@ -1,9 +1,8 @@
-use Rattle.std.proofs.Common.{◌-◌, ◌<◌, ◌≤◌, sym, refl, ◌∙◌, inl, inr, arith, rules}
+use Rattle.std.proofs.Common.{◌-◌, ◌<◌, sym, refl, ◌∙◌, arith}
 use Rattle.model.specs.Parts.{with_limit}
-use Rattle.words.specs.Images.{Does}
 use Rattle.words.proofs.Does.{rewritten_does}
 use Rattle.timed.specs.Owed.{owed_limits}
-use Rattle.timed.proofs.Settled.{limits, told, none_told, all_told, told-one, zero_passed}
+use Rattle.timed.proofs.Settled.{limits, none_told, all_told, told-one, zero_passed}
 use Rattle.timed.proofs.settling.settle_limits.Goals as goal
 use Rattle.timed.proofs.settling.settle_limits.Goals.{then-x-ne0, else-x-ne0}
 use Rattle.timed.proofs.settling.settle_limits.Goals.{In-loop-i}

@@ -1,8 +1,7 @@
-use Rattle.std.proofs.Common.{◌-◌, ◌<◌, ◌≤◌, sym, refl, ◌∙◌, inl, inr, arith, rules}
-use Rattle.words.specs.Images.{Does}
+use Rattle.std.proofs.Common.{◌-◌, ◌<◌, sym, refl, ◌∙◌, arith}
 use Rattle.words.proofs.Accepted.{unmoved_does}
 use Rattle.timed.specs.Owed.{owed_times}
-use Rattle.timed.proofs.Settled.{times, told, none_told, all_told, told-one, zero_passed}
+use Rattle.timed.proofs.Settled.{times, none_told, all_told, told-one, zero_passed}
 use Rattle.timed.proofs.settling.settle_timers.Goals as goal
 use Rattle.timed.proofs.settling.settle_timers.Goals.{then-x-ne0, else-x-ne0}
 use Rattle.timed.proofs.settling.settle_timers.Goals.{In-loop-o}

@@ -1,5 +1,5 @@
 -- The model's action by its kind, of the timer as it is read.
-use Rattle.std.proofs.Common.{◌≡◌, ℕ, zero, suc, ◌<◌, refl, ap, ◌∙◌, arith, rules}
+use Rattle.std.proofs.Common.{◌≡◌, ℕ, zero, suc, ◌<◌, refl, ap, ◌∙◌, arith}
 use Rattle.model.specs.declared.tables.Timer.{Timer}
 use Rattle.model.specs.State.{State}
 use Rattle.model.specs.Parts.{timer}

@@ -1,5 +1,5 @@
 -- Each way of the test writes what the model's does.
-use Rattle.std.proofs.Common.{◌≡◌, ℕ, List, ap, ◌∙◌, ⊎_elim, rules, eq-eqb, ne_eqb}
+use Rattle.std.proofs.Common.{◌≡◌, ℕ, List, ap, ◌∙◌, eq-eqb, ne_eqb}
 use Rattle.sequences.proofs.Places.{alter_alike}
 use Rattle.model.specs.declared.tables.Timer.{Timer}
 use Rattle.model.specs.State.{unused_timer}

@@ -1,13 +1,11 @@
-use Rattle.std.proofs.Common.{ℕ, ◌-◌, ◌<◌, ◌≤◌, min, List, sym, ap, ◌∙◌, inl, inr, arith, rules}
+use Rattle.std.proofs.Common.{ℕ, ◌-◌, ◌<◌, ◌≤◌, min, List, sym, ap, ◌∙◌, arith}
 use Rattle.model.specs.declared.tables.Timer.{Timer}
 use Rattle.model.specs.State.{unused_timer}
-use Rattle.model.specs.Layout.{view}
 use Rattle.layout.proofs.Viewed.{many_timers}
 use Rattle.theorems.specs.Leap.{timer_leap}
 use Rattle.fields.specs.Fields.{Named}
 use Rattle.words.specs.Images.{Whole}
-use Rattle.timed.specs.Armed.{Armed}
-use Rattle.timed.proofs.Walking.{Turn, Walking, walking_start, walking_next, walking_all}
+use Rattle.timed.proofs.Walking.{Turn, walking_start, walking_next, walking_all}
 use Rattle.timed.proofs.TimerWalk.{timers, left, timer-idle, expired-whole, expired_kind, expired-armed, timer_acts, timer_rests, timer_runs, armed-next}
 use Rattle.timed.proofs.timers.leap_timers.Goals as goal
 use Rattle.timed.proofs.timers.leap_timers.Goals.{then-x-ticks+then-t-ne-NOTHING, then-x-ticks+else-t-ne-NOTHING, else-x-ticks}
@@ -41,11 +39,14 @@ pub act-requires : goal.act-requires
 act-requires c =
     let l = c.loop-o in
     let a = c.expire-x.ensures.image in
-    let kind = expired_kind l.o l.image a ∙ ap (λ (y : Timer). y.kind) (sym c.timer-t.ensures) in record { whole = expired-whole l.o l.invariant.1.whole a; o_bound = (
+    let kind = expired_kind l.o l.image a ∙ ap (λ (y : Timer). y.kind) (sym c.timer-t.ensures) in record {
+      whole = expired-whole l.o l.invariant.1.whole a;
+      o_bound = (
         omega (arith, c.loop-o-test.true, c.requires.ticks_nonzero.2.most),
         expired-armed l.o l.image a l.invariant.0 l.o,
         omega (arith, kind, c.if-t-ne-NOTHING.true),
-      ) }
+      );
+    }
 
 pub set_left-requires : goal.set_left-requires
 set_left-requires c =

@@ -1,9 +1,9 @@
 use mathlib.Core.Path.{◌≡◌, refl, sym, ap, ◌∙◌}
 use mathlib.Core.List.{List, ◌++◌}
-use Prim.Native.Nat.{ℕ, ◌-◌, ◌≤◌}
+use Prim.Native.Nat.{ℕ, ◌-◌}
 use native.Mathlib.Omega.{arith}
 use borrow.Author.Fill.{fill_none, fill_more}
-use lib.ListN.{length, set, drop, replicate, drop_of_length-le}
+use lib.ListN.{length, set, drop, drop_of_length-le}
 use Rattle.sequences.specs.Lists.{tabulate}
 use Rattle.sequences.specs.Bytes.{Bytes, flat}
 use Rattle.sequences.specs.Records.{all}
@@ -41,8 +41,7 @@ loop-k-init c = (omega arith, c.requires, fill_none c.args.image.now 0)
 
 pub loop-k-preserved : goal.loop-k-preserved
 loop-k-preserved c =
-    let l = c.loop-k in
-    (
+    let l = c.loop-k in (
       omega arith,
       search rules,
       ap (λ (b : List ℕ). set b l.k 0) l.invariant.2 ∙ fill_more l.k 0 c.args.image.now (omega (arith, c.requires, c.loop-k-test.true)),

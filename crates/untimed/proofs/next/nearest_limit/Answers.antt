@@ -1,13 +1,11 @@
 use mathlib.Core.Path.{◌≡◌, sym, ap, ◌∙◌, subst}
-use Prim.Native.Nat.{ℕ, ◌-◌, ◌≤◌, min}
+use Prim.Native.Nat.{ℕ, ◌-◌, min}
 use native.Mathlib.Omega.{arith}
-use Rattle.model.specs.declared.tables.Thread.{Thread}
 use Rattle.model.specs.State.{absent_thread}
 use Rattle.model.specs.Layout.{view}
 use Rattle.layout.proofs.Viewed.{many-threads}
 use Rattle.untimed.specs.Counters.{Nearest}
 use Rattle.untimed.proofs.Passing.{passed, none_passed, one_more}
-use borrow.Author.Rules.{rules}
 use Rattle.untimed.proofs.next.nearest_limit.Invariants.{limit}
 use Rattle.untimed.proofs.next.nearest_limit.Goals as goal
 

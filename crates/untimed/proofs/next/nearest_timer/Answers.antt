@@ -1,13 +1,11 @@
 use mathlib.Core.Path.{◌≡◌, sym, ap, ◌∙◌, subst}
-use Prim.Native.Nat.{ℕ, ◌-◌, ◌≤◌, min}
+use Prim.Native.Nat.{ℕ, ◌-◌, min}
 use native.Mathlib.Omega.{arith}
-use Rattle.model.specs.declared.tables.Timer.{Timer}
 use Rattle.model.specs.State.{unused_timer}
 use Rattle.model.specs.Layout.{view}
 use Rattle.layout.proofs.Viewed.{many_timers}
 use Rattle.untimed.specs.Counters.{Nearest}
 use Rattle.untimed.proofs.Passing.{passed, none_passed, one_more}
-use borrow.Author.Rules.{rules}
 use Rattle.untimed.proofs.next.nearest_timer.Invariants.{left}
 use Rattle.untimed.proofs.next.nearest_timer.Goals as goal
 

@@ -1,14 +1,9 @@
 -- From the last timer down: the least place so far is that of the nearest of those passed.
-use mathlib.Core.Path.{◌≡◌, sym, ap, ◌∙◌, subst}
-use Prim.Native.Nat.{ℕ, ◌-◌, ◌≤◌, min}
-use native.Mathlib.Omega.{arith}
+use Prim.Native.Nat.{ℕ, ◌-◌, ◌≤◌}
 use Rattle.model.specs.declared.tables.Timer.{Timer}
-use Rattle.model.specs.State.{unused_timer}
 use Rattle.model.specs.Layout.{view}
-use Rattle.layout.proofs.Viewed.{many_timers}
 use Rattle.untimed.specs.Counters.{Nearest}
-use Rattle.untimed.proofs.Passing.{passed, none_passed, one_more}
-use borrow.Author.Rules.{rules}
+use Rattle.untimed.proofs.Passing.{passed}
 use Rattle.untimed.proofs.next.nearest_timer.Given as goal
 
 abbrev pub left : Timer → ℕ

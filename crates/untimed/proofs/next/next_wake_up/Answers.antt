@@ -2,7 +2,6 @@
 use native.Mathlib.Omega.{arith}
 use Rattle.model.specs.Time.{next}
 use Rattle.untimed.proofs.Passing.{nearest-of}
-use borrow.Author.Rules.{rules}
 use Rattle.untimed.proofs.next.next_wake_up.Goals as goal
 
 pub returns : goal.returns

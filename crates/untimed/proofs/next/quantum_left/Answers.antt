@@ -16,7 +16,6 @@ use Rattle.model.specs.Layout.{view, lists_of}
 use Rattle.fields.specs.Fields.{Named}
 use Rattle.layout.proofs.Viewed.{many-threads, ready_linked}
 use Rattle.words.specs.Images.{Whole}
-use borrow.Author.Rules.{rules}
 use Rattle.untimed.proofs.next.quantum_left.Goals as goal
 use Rattle.untimed.proofs.next.quantum_left.Goals.{Else-off-i}
 

@@ -1,5 +1,4 @@
 use mathlib.Core.Path.{◌≡◌, sym, ◌∙◌, ap}
-use mathlib.Core.Logic.{⊎_elim}
 use mathlib.Core.List.{List}
 use Prim.Native.Nat.{ℕ, suc, ◌+◌, ◌-◌, ◌≤◌, ◌<◌}
 use native.Mathlib.Omega.{arith}
@@ -16,7 +15,6 @@ use Rattle.model.specs.Layout.{view}
 use Rattle.fields.specs.Fields.{Sized}
 use Rattle.layout.proofs.Viewed.{many-ready}
 use Rattle.words.proofs.Firsts.{ready-first, head_linked, linked_long, unlinked_empty}
-use borrow.Author.Rules.{rules}
 use Rattle.words.proofs.choosing.choice.Goals as goal
 use Rattle.words.proofs.choosing.choice.Goals.{then-u32_at-eq0, else-u32_at-eq0}
 

@@ -9,7 +9,6 @@ use Rattle.model.specs.Words.{choice, choose}
 use Rattle.model.specs.Layout.{view}
 use Rattle.fields.proofs.Parts.{then, same_word}
 use Rattle.words.proofs.Altered.{unaltered}
-use borrow.Author.Rules.{rules}
 use Rattle.words.proofs.choosing.choose.Goals as goal
 
 -- with what was read of the state

@@ -10,7 +10,6 @@ use Rattle.model.specs.Layout.{view}
 use Rattle.fields.proofs.Parts.{same_word}
 use Rattle.layout.proofs.Viewed.{many-threads}
 use Rattle.words.proofs.Altered.{unaltered}
-use borrow.Author.Rules.{rules}
 use Rattle.words.proofs.choosing.refill.Goals as goal
 
 pub returns-then-i-lt-THREAD_COUNT : goal.returns-then-i-lt-THREAD_COUNT

@@ -3,7 +3,6 @@ use native.Mathlib.Omega.{arith}
 use Rattle.layout.proofs.Viewed.{list_linked}
 use Rattle.words.proofs.Lists.{enters}
 use Rattle.words.proofs.Moved.{entered_behind}
-use borrow.Author.Rules.{rules}
 use Rattle.words.proofs.moving.enter_by_priority.Goals as goal
 
 pub enter_behind-requires : goal.enter_behind-requires

@@ -2,7 +2,6 @@
 use native.Mathlib.Omega.{arith}
 use Rattle.words.proofs.Lists.{enters}
 use Rattle.words.proofs.Moved.{entered_ready}
-use borrow.Author.Rules.{rules}
 use Rattle.words.proofs.moving.enter_ready.Goals as goal
 
 pub enter_tail-requires : goal.enter_tail-requires

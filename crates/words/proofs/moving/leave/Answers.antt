@@ -1,6 +1,5 @@
 -- The links' part is put back as the links of the lists without the thread.
 use Rattle.words.proofs.Moved.{left}
-use borrow.Author.Rules.{rules}
 use Rattle.words.proofs.moving.leave.Goals as goal
 
 pub returns : goal.returns

@@ -1,6 +1,5 @@
 -- The values that the walk compares are the current priorities of the threads.
 use Rattle.words.proofs.Ranked.{spotted}
-use borrow.Author.Rules.{rules}
 use Rattle.words.proofs.moving.rank.Goals as goal
 
 pub returns : goal.returns

@@ -6,7 +6,6 @@ use Rattle.model.specs.declared.tables.Semaphore.{Semaphore}
 use Rattle.model.specs.State.{absent_semaphore}
 use Rattle.model.specs.Layout.{view}
 use Rattle.layout.proofs.Viewed.{many_semaphores}
-use borrow.Author.Rules.{rules}
 use Rattle.words.proofs.objects.count.Goals as goal
 
 pub returns : goal.returns

@@ -1,5 +1,4 @@
 -- An id below the number of them is looked up, and no other names one.
-use borrow.Author.Rules.{rules}
 use borrow.Author.Tests.{lt-ltb, le-ltb}
 use Rattle.words.proofs.objects.has_mutex.Goals as goal
 

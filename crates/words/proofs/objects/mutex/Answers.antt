@@ -5,7 +5,6 @@ use lib.ListN.{get_or-eq_default}
 use Rattle.model.specs.State.{absent_mutex}
 use Rattle.model.specs.Layout.{view}
 use Rattle.layout.proofs.Viewed.{many_mutexes}
-use borrow.Author.Rules.{rules}
 use Rattle.words.proofs.objects.mutex.Goals as goal
 
 pub returns : goal.returns

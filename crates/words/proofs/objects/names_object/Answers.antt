@@ -5,7 +5,6 @@ use Prim.Native.Nat.{ℕ, zero, suc}
 use Rattle.model.specs.State.{State}
 use Rattle.model.specs.Ranges.{names_object}
 use Rattle.model.specs.Layout.{view}
-use borrow.Author.Rules.{rules}
 use Rattle.words.proofs.objects.names_object.Goals as goal
 
 names-nothing : (kind object : ℕ) (s : State) → (kind ≡ 1 → ⊥) → (kind ≡ 2 → ⊥) → true ≡ names_object kind object s

@@ -6,7 +6,6 @@ use Rattle.model.specs.declared.tables.Flags.{Flags}
 use Rattle.model.specs.State.{absent_flags}
 use Rattle.model.specs.Layout.{view}
 use Rattle.layout.proofs.Viewed.{many_flags}
-use borrow.Author.Rules.{rules}
 use Rattle.words.proofs.objects.word.Goals as goal
 
 pub returns : goal.returns

@@ -1,12 +1,9 @@
 use mathlib.Core.Path.{◌≡◌, refl, sym}
-use mathlib.Core.Bool.{false}
-use Prim.Native.Nat.{◌-◌, ◌≤◌}
 use native.Mathlib.Omega.{arith}
 use Rattle.sequences.specs.Lists.{some_below}
 use Rattle.sequences.proofs.Stopping.{none_passes, one_found}
 use Rattle.model.specs.Words.{owns, owns_any}
 use Rattle.model.specs.Layout.{view}
-use borrow.Author.Rules.{rules}
 use Rattle.words.proofs.owners.owns_any.Goals as goal
 
 pub loop-o-init : goal.loop-o-init

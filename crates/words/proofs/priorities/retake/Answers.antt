@@ -5,7 +5,6 @@ use lib.Dec.{leb, ltb}
 use Rattle.sequences.proofs.Tests.{right}
 use Rattle.words.proofs.Known.{told-on}
 use Rattle.words.proofs.Retaking.{retaken_off, retaken_ready, retaken_waiting, retaken_still}
-use borrow.Author.Rules.{rules}
 use Rattle.words.proofs.priorities.retake.Goals as goal
 
 pub leave-requires : goal.leave-requires

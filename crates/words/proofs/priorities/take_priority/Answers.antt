@@ -2,7 +2,6 @@
 use borrow.Author.Tests.{eq-eqb, ne_eqb}
 use Rattle.model.specs.Words.{take_priority}
 use Rattle.words.proofs.Does.{same_word}
-use borrow.Author.Rules.{rules}
 use Rattle.words.proofs.priorities.take_priority.Goals as goal
 
 pub returns-then-current-p : goal.returns-then-current-p

@@ -5,7 +5,6 @@ use native.Mathlib.Omega.{arith}
 use Rattle.sequences.specs.Links.{head_link}
 use Rattle.layout.proofs.Viewed.{list_linked}
 use Rattle.words.proofs.Firsts.{first_link}
-use borrow.Author.Rules.{rules}
 use Rattle.words.proofs.standing.first_of.Goals as goal
 
 pub returns : goal.returns

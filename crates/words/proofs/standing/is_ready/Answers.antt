@@ -1,6 +1,5 @@
 -- The ready lists come first, so the number of its list tells whether a thread is ready.
 use Rattle.words.proofs.Lists.{ready-told, none_ready}
-use borrow.Author.Rules.{rules}
 use mathlib.Core.Path.{sym}
 use Rattle.words.proofs.standing.is_ready.Goals as goal
 

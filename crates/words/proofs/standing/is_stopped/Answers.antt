@@ -1,6 +1,5 @@
 -- A thread stands on one list at most, so the number of its list tells whether that is the stopped list.
 use Rattle.words.proofs.Lists.{stopped-told, none-stopped}
-use borrow.Author.Rules.{rules}
 use mathlib.Core.Path.{sym}
 use Rattle.words.proofs.standing.is_stopped.Goals as goal
 

@@ -6,7 +6,6 @@ use lib.Dec.{eqb}
 use Rattle.model.specs.Parts.{list}
 use Rattle.model.specs.Layout.{view}
 use Rattle.words.proofs.Firsts.{some_linked}
-use borrow.Author.Rules.{rules}
 use Rattle.words.proofs.standing.waited_for.Goals as goal
 
 pub returns : goal.returns

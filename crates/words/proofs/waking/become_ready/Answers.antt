@@ -1,7 +1,6 @@
 -- Who has left is off all lists.
 use Rattle.model.specs.Words.{become_ready}
 use Rattle.words.proofs.Does.{and_then, left-off}
-use borrow.Author.Rules.{rules}
 use Rattle.words.proofs.waking.become_ready.Goals as goal
 
 pub enter_ready-requires : goal.enter_ready-requires

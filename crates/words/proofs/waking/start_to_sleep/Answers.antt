@@ -2,7 +2,6 @@
 use native.Mathlib.Omega.{arith}
 use Rattle.model.specs.Words.{start_to_sleep}
 use Rattle.words.proofs.Does.{and_then, suspended_off}
-use borrow.Author.Rules.{rules}
 use Rattle.words.proofs.waking.start_to_sleep.Goals as goal
 
 pub enter_tail-requires : goal.enter_tail-requires

@@ -1,7 +1,6 @@
 -- Who was suspended is off all lists.
 use Rattle.model.specs.Words.{start_to_wait}
 use Rattle.words.proofs.Does.{and_then, suspended_off}
-use borrow.Author.Rules.{rules}
 use Rattle.words.proofs.waking.start_to_wait.Goals as goal
 
 pub enter_by_priority-requires : goal.enter_by_priority-requires

@@ -4,7 +4,6 @@ use Rattle.model.specs.Parts.{with_wait}
 use Rattle.model.specs.Words.{suspend}
 use Rattle.words.proofs.Does.{rewritten_does, and_then}
 use Rattle.words.proofs.Known.{ready_on, rewritten_ready}
-use borrow.Author.Rules.{rules}
 use Rattle.words.proofs.waking.suspend.Goals as goal
 
 pub leave-requires : goal.leave-requires

@@ -4,7 +4,6 @@ use Rattle.model.specs.Parts.{with_wait}
 use Rattle.model.specs.Words.{wake}
 use Rattle.words.proofs.Does.{rewritten_does, and_then}
 use Rattle.words.proofs.Known.{rewritten_on}
-use borrow.Author.Rules.{rules}
 use Rattle.words.proofs.waking.wake.Goals as goal
 
 pub become_ready-requires : goal.become_ready-requires
