@@ -4,23 +4,58 @@ import re
 import sys
 
 TOP = pathlib.Path(__file__).resolve().parent.parent
-START = re.compile(r'^(\s*)(pub )?(?:extern "C" )?fn (\w+)\(')
+START = re.compile(r'^(\s*)(pub )?(?:extern "C" )?fn (\w+)(?:<(.*)>)?\(')
+CLAUSE = re.compile(r" ?(requires|ensures)(?: (\w+))? \{ ")
 
 
 class Function:
-    """Name, parameters with their types, result and body; `head` is all before the body in one line, `at` and `body_at` count lines from 0."""
+    """Name, parameters with their types, result, clauses and body; `head` is all before the body in one line, `at` and `body_at` count lines from 0."""
 
     def __init__(self, path, name, public, at, lines):
         opening = next(k for k, line in enumerate(lines) if line.endswith("{"))
         self.path, self.name, self.public, self.at, self.lines = path, name, public, at, lines
         self.body_at, self.body = at + opening + 1, lines[opening + 1 : -1]
         self.head = " ".join(line.strip() for line in lines[: opening + 1])
-        found = re.search(r"fn \w+\((.*?)\)(?: -> (.*?))?(?: requires | ensures | ?\{$)", self.head)
-        self.parameters = dict(part.strip(" ,").split(": ", 1) for part in found[1].split(",") if ":" in part)
-        self.result = found[2]
+        found = re.search(r"fn \w+(?:<(.*?)>)?\((.*?)\)(?: -> (.*?))?(?=(?: (?:requires|ensures) (?:\w+ )?\{ | ?\{$))", self.head)
+        self.types = [part.split(":")[0].strip() for part in parted(found[1] or "")]
+        self.parameters = dict(part.strip().split(": ", 1) for part in parted(found[2]) if ": " in part)
+        self.result, self.clauses = found[3], list(clauses(self, self.head[found.end() : -1]))
 
     def file(self):
         return self.path.relative_to(TOP).as_posix()
+
+    def said(self, kind):
+        """The texts of its clauses of a kind."""
+        return [text for its, text in self.clauses if its == kind]
+
+
+def parted(text, brackets=("([{<", ")]}>")):
+    """The parts between commas that stand in no brackets."""
+    parts, depth = [""], 0
+    for letter in text:
+        depth += (letter in brackets[0]) - (letter in brackets[1])
+        if letter == "," and not depth:
+            parts.append("")
+        else:
+            parts[-1] += letter
+    return [part for part in parts if part.strip()]
+
+
+def clauses(function, text):
+    """Kind and text of each clause; nothing else stands between signature and body."""
+    at = 0
+    while text[at:].strip():
+        found = CLAUSE.match(text, at)
+        if found is None:
+            sys.exit(f"{function.file()}:{function.at + 1}: {function.name}: no clause is read in '{text[at:].strip()}'")
+        depth, end = 1, found.end()
+        while depth:
+            if end == len(text):
+                sys.exit(f"{function.file()}:{function.at + 1}: {function.name}: a clause has no end")
+            depth += (text[end] == "{") - (text[end] == "}")
+            end += 1
+        yield found[1], text[found.end() : end - 1].strip()
+        at = end
 
 
 def functions(path):
@@ -33,3 +68,18 @@ def functions(path):
             if end is None:
                 sys.exit(f"{path.relative_to(TOP)}:{at + 1}: no end of {start[3]} is found")
             yield Function(path, start[3], bool(start[2]), at, lines[at : end + 1])
+
+
+def imported(text, word="use"):
+    """The whole path of each name that the `use` lines of a text bring in, one by one."""
+    for tree in re.findall(rf"(?ms)^{word} ([^;]+);", text):
+        yield from paths(" ".join(tree.split()))
+
+
+def paths(tree):
+    head, brace, rest = tree.partition("{")
+    if not brace:
+        yield head.strip()
+        return
+    for part in parted(rest.rstrip()[:-1], "{}"):
+        yield from paths(head + part.strip())
