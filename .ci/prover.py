@@ -51,7 +51,12 @@ def located(crate, found):
     """Where an error is, and what it says."""
     folder, file, line, said = found.groups()
     if folder == "src":
-        inside = functions_on_lines(crate, TOP / "crates" / crate / folder / file, int(line) - 1, int(line) - 1)
+        path, at = TOP / "crates" / crate / folder / file, int(line) - 1
+        lines = path.read_text().split("\n")
+        # a function begins with its attributes
+        while lines[at].lstrip().startswith("#["):
+            at += 1
+        inside = functions_on_lines(crate, path, at, at)
         return (sorted(inside)[0] if len(inside) == 1 else None), said
     return re.sub(r"/(?:Answers|Invariants|Proof)\.antt$", "", file).replace("/", "::"), said
 
