@@ -20,6 +20,8 @@ NOT_FOUND = ("it is not proved that", "does not follow from what it read", "no p
 NOT_SHOWN = ("expected type", "the two types", "the two values", "give a proof of that as the last argument")
 # No facts: a loop's invariant or measure that no longer fits its variables, and two types that are only places in the walk through a function.
 UNFIT = re.compile(r"`(?:invariant|decreases)-[^`]*`:|(?s:.*)expected type `(?:tie\.|\S*\.(?:Tie|Lts)\.)[\w-]+`")
+# A proof that names what the code no longer has.
+NAME_GONE = re.compile(r"has no field|is not in scope|has no `|was not admitted")
 # What a function leaves, and what a turn of its loop does.
 LEFT = re.compile(r"`(?:returns|loop-)|.*\(`(?:returns|loop-)")
 # An error, in a file of proofs or definitions or where the prover goes through a function by itself.
@@ -70,6 +72,13 @@ def is_unanswered(crate, where, what):
     file = TOP / "crates" / crate / "proofs" / where.replace("::", "/") / "Answers.antt"
     goal = re.search(r"\(`([\w-]+)`\)", what)
     return what.startswith("it is not proved that") and file.is_file() and not (goal and re.search(rf"(?m)^pub {goal[1]} :", file.read_text()))
+
+
+def telling(crate, errors):
+    """Of the errors of some functions, with where they are, those that tell something. Where a proof names what isn't there any more, a goal without an
+    answer may only have another name than before."""
+    gone = {where for where, what in errors if NAME_GONE.search(what)}
+    return [(where, what) for where, what in errors if not NAME_GONE.search(what) and not (where in gone and is_unanswered(crate, where, what))]
 
 
 def failing_fact(errors):
