@@ -4,14 +4,16 @@
     tools/respell.py            rewrites crates/ in place: once, after the kit's port.py, on what it wrote
     tools/respell.py --list     prints each old name and its new one
 
-A name that specs/ declares has no dash left. A lemma keeps one where it joins two names that are declared (`count-append`). Names of the
-library, of the functions in src/ and of goals stay as they are. It stops where two names would fall together."""
+A name that specs/ declares loses its dashes; what a file named Answers.antt declares isn't looked at, nor an operator. A lemma keeps a dash where it
+joins two names that are declared (`count-append`). Names of the library, of the functions in src/ and of goals stay as they are. It stops where two
+names would fall together."""
 import re
+import subprocess
 import sys
 from pathlib import Path
 
 TOP = Path(__file__).resolve().parent.parent
-KIT = Path("/opt/rattle/rattle")
+KIT = Path(subprocess.run(["rt", "doc"], capture_output=True, text=True, check=True).stdout.strip()).parent / "rattle"
 TOKEN = re.compile(r"(?<![\w'\-?◌])[A-Za-z_][\w'?]*(?:-[\w'?]+)+(?![\w'\-?])")
 # What is declared: a line `[words] names :`, or `record NAME` and the like.
 DECLARED = re.compile(r"^\s*(?:(?:pub|abbrev|unfoldable|private|opaque)\s+)*((?:[A-Za-z][\w'?\-₀-₉]*\s+)*[A-Za-z][\w'?\-₀-₉]*)\s*:(?:\s|$)")
@@ -21,12 +23,15 @@ LIBRARY = {
     "get_or", "set", "reverse", "bit_and", "bit_or",
 }
 
+
 def comment_from(line):
     at = re.search(r"(?:^|\s)--(?:\s|$)", line)
     return at.start() if at else len(line)
 
+
 def own_files(suffix):
     return sorted(p for p in (TOP / "crates").rglob(f"*{suffix}") if "out" not in p.relative_to(TOP).parts)
+
 
 def declared(path):
     found = set()
@@ -37,6 +42,7 @@ def declared(path):
             found |= {name for name in its[1].split() if "-" in name}
     return found
 
+
 def library_names():
     found = set()
     for path in KIT.rglob("*.antt"):
@@ -46,8 +52,10 @@ def library_names():
                 found |= {name for name in its[1].split() if "-" in name}
     return found
 
+
 def is_walk(path):
     return path.name in ("Proof.antt", "Answers.antt", "Invariants.antt")
+
 
 def lemma_name(name, definitions):
     """The name in parts, the longest that are declared first: a dash between two that are, and '_' before and behind a plain word."""
@@ -64,6 +72,7 @@ def lemma_name(name, definitions):
         text += ("-" if named and its else "_") + part
         named = its
     return text
+
 
 def camel(name):
     return "".join(word[0].upper() + word[1:] for word in name.split("-"))
@@ -87,6 +96,7 @@ def respelled():
     new.update({name: camel(name) if name[0].isupper() else lemma_name(name, definitions) for name in lemmas - specs if name not in library})
     return {old: its for old, its in new.items() if old != its}, specs & library
 
+
 def fields_of():
     """The fields of our own records, which a projection may name."""
     found = set()
@@ -104,13 +114,13 @@ def fields_of():
                 found |= {name for name in its[1].split() if "-" in name}
     return found
 
+
 def turned(text, new, fields, walk):
     def one(its):
         name, before = its[0], text[max(0, its.start() - 5) : its.start()]
         if name not in new:
             return name
         if before.endswith("."):
-
             if before.endswith("tie.") or before.endswith("goal."):
                 return name
             if walk and name not in fields:
@@ -119,12 +129,14 @@ def turned(text, new, fields, walk):
 
     return TOKEN.sub(one, text)
 
+
 def turn_lines(path, new, fields):
     walk, out = is_walk(path), []
     for line in path.read_text().split("\n"):
         at = comment_from(line)
         out.append(turned(line[:at], new, fields, walk) + line[at:])
     return "\n".join(out)
+
 
 def turn_rust(path, new):
     """Clauses, `ghost` items and nothing else: a comment or a string may have a dash between words."""
@@ -142,6 +154,7 @@ def turn_rust(path, new):
             out.append(line)
     return "\n".join(out)
 
+
 def turn_edit(path, new):
     text = path.read_text()
     in_specs, out = False, []
@@ -150,6 +163,7 @@ def turn_edit(path, new):
             in_specs = "specs/" in line
         out.append(turned(line, new, set(), False) if in_specs and line[:4] in ("old:", "new:") else line)
     return "\n".join(out)
+
 
 def fall_together(new):
     """New names that two old ones share, or that stand already in a file that had the old one."""
@@ -169,6 +183,7 @@ def fall_together(new):
             parameters = set(re.findall(r"\b(\w+): ", text))
             wrong += [f"{path.relative_to(TOP)}: {old} becomes {new[old]}, a parameter or field there" for old in sorted(there & set(new)) if new[old] in parameters]
     return wrong
+
 
 def main(argv):
     new, shared = respelled()
@@ -190,6 +205,7 @@ def main(argv):
         path.write_text(turn_edit(path, new))
     print(f"{len(new)} names")
     return 0
+
 
 if __name__ == "__main__":
     sys.exit(main(sys.argv[1:]))
