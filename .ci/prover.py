@@ -16,8 +16,8 @@ import tempfile
 from sources import TOP, functions
 
 # What the prover says of a fact that its own search or arithmetic doesn't find to hold, and of one that isn't what the proof shows.
-NOT_FOUND = ("it is not proved that", "does not follow from what it read", "no proof of", "does not close")
-NOT_SHOWN = ("expected type", "the two types", "the two values", "give a proof of that as the last argument")
+NOT_FOUND = ("it is not proved that", "does not follow from what it read", "no proof of", "does not close", "list the missing equation")
+NOT_SHOWN = ("expected type", "the two types", "the two sides", "the two values", "give a proof of that as the last argument")
 # No facts: a loop's invariant or measure that no longer fits its variables, and two types that are only places in the walk through a function.
 UNFIT = re.compile(r"`(?:invariant|decreases)-[^`]*`:|(?s:.*)expected type `(?:tie\.|\S*\.(?:Tie|Lts)\.)[\w-]+`")
 # A proof that names what the code no longer has.
@@ -92,11 +92,11 @@ def failing_fact(errors):
 
 
 def of_crate(crate):
-    """The crate's functions by their path, as in `row::push`."""
+    """The crate's functions by their path, as in `row::push`, and of a method `row::Row::push`."""
     found = {}
     for path in sorted((TOP / "crates" / crate / "src").glob("*.rt")):
         module = "" if path.stem in ("lib", "main") else f"{path.stem}::"
-        found.update({module + function.name: function for function in functions(path)})
+        found.update({module + (function.owner and function.owner + "::") + function.name: function for function in functions(path)})
     return found
 
 

@@ -4,21 +4,23 @@ import re
 import sys
 
 TOP = pathlib.Path(__file__).resolve().parent.parent
-START = re.compile(r'^(\s*)(pub )?(?:extern "C" )?fn (\w+)(?:<(.*)>)?\(')
+START = re.compile(r'^(\s*)(pub )?(?:pub\(\w+\) )?(?:extern "C" )?fn (\w+)(?:<(.*)>)?\(')
 CLAUSE = re.compile(r" ?(requires|ensures)(?: (\w+))? \{ ")
 
 
 class Function:
     """Name, parameters with their types, result, clauses and body; `head` is all before the body in one line, `at` and `body_at` count lines from 0."""
 
-    def __init__(self, path, name, public, at, lines):
+    def __init__(self, path, name, owner, public, at, lines):
         opening = next(k for k, line in enumerate(lines) if line.endswith("{"))
         self.path, self.name, self.public, self.at, self.lines = path, name, public, at, lines
+        self.owner = owner  # of a method, what a proof calls its impl; else empty
         self.body_at, self.body = at + opening + 1, lines[opening + 1 : -1]
         self.head = " ".join(line.strip() for line in lines[: opening + 1])
         found = re.search(r"fn \w+(?:<(.*?)>)?\((.*?)\)(?: -> (.*?))?(?=(?: (?:requires|ensures) (?:\w+ )?\{ | ?\{$))", self.head)
-        self.types = [part.split(":")[0].strip() for part in parted(found[1] or "")]
-        self.parameters = dict(part.strip().split(": ", 1) for part in parted(found[2]) if ": " in part)
+        self.types = [part.split(":")[0].strip().removeprefix("const ") for part in parted(found[1] or "")]
+        parameters = [part.strip().removeprefix("mut ") for part in parted(found[2])]
+        self.parameters = dict(part.split(": ", 1) if ": " in part else ("self", part) for part in parameters)
         self.result, self.clauses = found[3], list(clauses(self, self.head[found.end() : -1]))
 
     def file(self):
@@ -63,11 +65,28 @@ def functions(path):
     lines = path.read_text().split("\n")
     for at, line in enumerate(lines):
         start = START.match(line)
-        if start:
+        if start and not is_declared(lines[at:]):
             end = next((k for k in range(at, len(lines)) if lines[k] == start[1] + "}"), None)
             if end is None:
                 sys.exit(f"{path.relative_to(TOP)}:{at + 1}: no end of {start[3]} is found")
-            yield Function(path, start[3], bool(start[2]), at, lines[at : end + 1])
+            yield Function(path, start[3], impl_around(lines[:at]) if start[1] else "", bool(start[2]), at, lines[at : end + 1])
+
+
+def is_declared(lines):
+    """Whether the function that begins here has no body, as a trait declares it."""
+    return next(line for line in lines if line.endswith(("{", ";"))).endswith(";")
+
+
+def impl_around(lines):
+    """What a proof calls the impl, or the trait, that these lines begin: the words of the type, the trait and the trait's arguments, but for the impl's own
+    parameters."""
+    head = next((line for line in reversed(lines) if re.match(r"(?!where\b)\w", line)), "")
+    found = re.match(r"(?:pub )?(?:impl|trait)(?:<(.*?)>)? (?:(\S+) for )?([^{]+)", head)
+    if found is None:
+        return ""
+    own = set(re.findall(r"\w+", found[1] or ""))
+    words = re.findall(r"(?<!')\b\w+", f"{found[3]} {found[2] or ''}")
+    return "".join(word[0].upper() + word[1:] for word in words if word not in own)
 
 
 def imported(text, word="use"):

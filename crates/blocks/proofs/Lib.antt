@@ -4,3 +4,4 @@ pub mod Turns
 -- a file in blocks
 pub mod Seams
 pub mod Whole
+pub mod First

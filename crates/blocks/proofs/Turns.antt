@@ -1,9 +1,8 @@
 -- A block under way, as the loop goes through it: the text that is put already and that of what is left make up the whole.
-use mathlib.Core.Path.{◌≡◌, refl, sym, ap, ◌∙◌}
+use mathlib.Core.Path.{◌≡◌, sym, ap, ◌∙◌}
 use mathlib.Core.Bool.{Bool, true, false}
 use mathlib.Core.List.{List, [], ◌++◌, append_assoc, append-nil}
 use Prim.Native.Nat.{ℕ, ◌+◌, ◌<◌}
-use native.Mathlib.Nat.{add-zero}
 use lib.ListN.{length, drop}
 use Rattle.sequences.specs.Bytes.{flat}
 use Rattle.sequences.proofs.EndToEnd.{flat-one}
@@ -11,7 +10,8 @@ use Rattle.model.specs.declared.requests.Request.{Request}
 use Rattle.model.specs.Before.{Laid}
 use Rattle.model.specs.Replay.{record_length, request_of, bad_record, line_of}
 use Rattle.model.specs.Stored.{Stored, called}
-use Rattle.records.specs.declared.Record.TheVariants.{Call, Bad}
+use Rattle.std.specs.Prelude.{Ok, Err}
+use Rattle.records.specs.declared.BadRecord.{BadRecord}
 use Rattle.records.specs.Records.{record_at}
 use Rattle.records.proofs.Cases.{call-stands, bad_stands}
 use Rattle.text.specs.Text.{line_text, text_of}
@@ -30,12 +30,9 @@ pub record Over (whole : Ran) (all : Bool) (k : Stored) (put : List ℕ) : Type 
   pub after : k ≡ whole.after
   pub good : all ≡ whole.good
 
-pub at-start : (o : ℕ) (bs : List ℕ) (k : Stored) → Under-way (block o bs k) (o + 0) bs k []
-at-start o bs k = rw (add-zero o) (record { text = refl; after = refl; good = refl })
-
 module _ {whole : Ran} {o : ℕ} {bs : List ℕ} {k : Stored} {put : List ℕ} (u : Under-way whole o bs k put) where
   -- a record was called, and its line put behind
-  pub turned : (q : Request) (l : Laid) (more : List ℕ) → Call q ≡ record_at o bs → l ≡ called k q
+  pub turned : (q : Request) (l : Laid) (more : List ℕ) → Ok q ≡ record_at o bs → l ≡ called k q
       → more ≡ put ++ line_text (line_of l.reply.report)
       → Under-way whole (o + record_length) (drop record_length bs) (record { table = l.reply.table; rows = l.rows }) more
   unfolding flat
@@ -62,11 +59,13 @@ module _ {whole : Ran} {o : ℕ} {bs : List ℕ} {k : Stored} {put : List ℕ} (
       }
 
   -- no record stood there, and that was put behind
-  pub stopped-there : (n : ℕ) (more : List ℕ) → 0 < length bs → Bad n ≡ record_at o bs → more ≡ put ++ line_text (bad_record o)
+  pub stopped-there : (bad : BadRecord) (more : List ℕ) → 0 < length bs → Err bad ≡ record_at o bs → more ≡ put ++ line_text (bad_record bad.offset)
       → Over whole false k more
-  stopped-there n more h d p =
-      rw (p ∙ ap (λ (t : List ℕ). put ++ t) (sym (flat-one line_text (bad_record o))))
-      (over (stopped o k) (block-stop o bs k h (bad_stands o bs n d)))
+  stopped-there bad more h d p =
+      let b = bad_stands o bs bad d in
+      let there : more ≡ put ++ line_text (bad_record o) = p ∙ ap (λ (n : ℕ). put ++ line_text (bad_record n)) b.1 in
+      rw (there ∙ ap (λ (t : List ℕ). put ++ t) (sym (flat-one line_text (bad_record o))))
+      (over (stopped o k) (block-stop o bs k h b.0))
 
   -- no byte is left
   pub ended-there : bs ≡ [] → Over whole true k put

@@ -1,7 +1,7 @@
 // A block of a replay file: each record is decoded, called and told on a line (01, Replay file). The lines of a block go into one buffer.
 #![tactic(auto)]
 
-ghost use Rattle.std.specs.Prelude.{◌≡◌, ◌++◌, ◌+◌, ◌*◌, ◌<◌, ◌≤◌, length, take, drop};
+ghost use Rattle.std.specs.Prelude.{◌≡◌, ◌++◌, ◌+◌, ◌*◌, ◌<◌, ◌≤◌, is_none, length, take, drop};
 ghost use Rattle.io.specs.Counts.{IsPrefixLen};
 ghost use Rattle.model.specs.Replay.{line_of};
 ghost use Rattle.text.specs.Text.{line_text, text_of};
@@ -9,14 +9,14 @@ ghost use Rattle.blocks.specs.Blocks.{block};
 
 use model::answers::Report;
 use model::tables::Table;
-use records::{RECORD_LENGTH, Record};
+use records::{BadRecord, RECORD_LENGTH};
 
-// The table after a block, how many bytes of text it came to, and whether all of its records were good.
+// The table after a block, how many bytes of text it came to, and the record that ended it before its end, if one did.
 #[derive(Clone, Copy)]
 pub struct Block {
     pub table: Table,
     pub length: usize,
-    pub good: bool,
+    pub bad: Option<BadRecord>,
 }
 
 fn put_report(out: &mut [u8], at: usize, told: Report) -> usize
@@ -25,13 +25,11 @@ fn put_report(out: &mut [u8], at: usize, told: Report) -> usize
     ensures text { take result out.new ≡ take at out.old ++ line_text (line_of told) }
     ensures rest { drop result out.new ≡ drop result out.old }
 {
-    let answer = told.answer;
-    let number = entries::number(answer);
     text::put_numbers(
         out,
         at,
-        number,
-        told.chosen as u32,
+        u32::from(told.answer),
+        u32::from(told.chosen),
         told.clock,
         told.wakeups,
     )
@@ -49,30 +47,29 @@ pub fn replay_block(
     ensures text { take result.length out.new ≡ text_of (block offset bytes.now (record { table = t; rows = rows.old })).lines }
     ensures counts { IsPrefixLen result.length out.new }
     ensures after { record { table = result.table; rows = rows.new } ≡ (block offset bytes.now (record { table = t; rows = rows.old })).after }
-    ensures good { result.good ≡ (block offset bytes.now (record { table = t; rows = rows.old })).good }
+    ensures good { is_none result.bad ≡ (block offset bytes.now (record { table = t; rows = rows.old })).good }
     ensures rest { drop result.length out.new ≡ drop result.length out.old }
 {
     let mut table = t;
-    let mut at = 0;
+    let mut here = offset;
     let mut end = 0;
-    while at < bytes.len() {
-        let here = offset + at as u64;
-        let Record::Call(q) = records::decode(&bytes[at..], here) else {
-            let last = text::put_bad_record(out, end, here);
+    for record in bytes.chunks(RECORD_LENGTH) {
+        // 01 asks for this form; where the record begins is told anew rather than taken out of the error.
+        let Ok(q) = records::decode(record, here) else {
             return Block {
-                table: table,
-                length: last,
-                good: false,
+                table,
+                length: text::put_bad_record(out, end, here),
+                bad: Some(BadRecord { offset: here }),
             };
         };
-        let reply = entries::call(table, &mut *rows, q);
+        let reply = entries::call(table, rows, q);
         table = reply.table;
         end = put_report(out, end, reply.report);
-        at += RECORD_LENGTH;
+        here += record.len() as u64;
     }
     Block {
-        table: table,
+        table,
         length: end,
-        good: true,
+        bad: None,
     }
 }

@@ -1,4 +1,4 @@
--- A thread by its id, and a record stored for one that stands on no list.
+-- A record stored for one that stands on no list.
 use mathlib.Core.List.{List}
 use Prim.Native.Nat.{ℕ, ◌<◌}
 use native.Mathlib.Omega.{arith}
@@ -6,12 +6,9 @@ use Rattle.model.specs.declared.tables.Thread.{Thread}
 use Rattle.model.specs.Parts.{alter_thread}
 use Rattle.model.specs.Layout.{view}
 use Rattle.placed.proofs.Standing.{unready_placed}
-use Rattle.fields.specs.Fields.{Named, Alters}
-use Rattle.words.specs.Images.{Does, Given, Off}
+use Rattle.fields.specs.Fields.{Alters}
+use Rattle.words.specs.Images.{Does, Off}
 use Rattle.words.proofs.Does.{altered_does}
-
-pub named : {b : List ℕ} {i : ℕ} → Given b i → Named 16 b i
-named g = record { size = g.whole.size; there = g.thread }
 
 pub stored_does : {b r : List ℕ} {i : ℕ} (x : Thread) → Off b i → x.current < 8 → Alters b (alter_thread i (λ _. x)) r
     → Does b (alter_thread i (λ _. x)) r

@@ -6,9 +6,10 @@ ghost use Rattle.theorems.specs.Allowed.{Allowed};
 ghost use Rattle.words.specs.Images.{Whole, Does};
 
 use fields::head;
+use fields::places::Image;
 use model::requests::Request;
 
-pub fn scheduling(image: &mut [u8], q: Request)
+pub fn scheduling(image: &mut Image, q: Request)
     requires whole { Whole image.old }
     requires allowed { Allowed scheduling q (view image.old) }
     ensures { Does image.old (scheduling_effect q) image.new }

@@ -3,20 +3,17 @@ ghost use Rattle.std.specs.Prelude.{◌≡◌, ◌<◌, ◌≤◌};
 ghost use Rattle.model.specs.Calls.{create_thread, start, stop, exit, yield, sleep, set_priority, set_quantum};
 ghost use Rattle.model.specs.Effects.{new_current, create_thread_effect, start_effect, stop_effect, exit_effect, yield_effect, sleep_effect, set_priority_effect, set_quantum_effect};
 ghost use Rattle.model.specs.Layout.{view};
-ghost use Rattle.fields.specs.Fields.{Named};
-ghost use Rattle.theorems.specs.Allowed.{Allowed, Accepted};
-ghost use Rattle.theorems.specs.Effect.{effect};
+ghost use Rattle.theorems.specs.Allowed.{Allowed};
 ghost use Rattle.words.specs.Images.{Whole, Does};
 
-use fields::places::PRIORITY_COUNT;
+use fields::places::{Image, PRIORITY_COUNT};
 use fields::{head, threads};
-use model::calls::{CREATE_THREAD, EXIT, SET_PRIORITY, SLEEP, START, STOP, YIELD};
 use model::lists::STOPPED_LIST;
 use model::requests::Request;
 use words::{owners, priorities, waking};
 
 // Call 1: last among the stopped.
-fn create_thread(image: &mut [u8], q: Request)
+pub fn create_thread(image: &mut Image, q: Request)
     requires whole { Whole image.old }
     requires allowed { Allowed create_thread q (view image.old) }
     ensures { Does image.old (create_thread_effect q) image.new }
@@ -28,7 +25,7 @@ fn create_thread(image: &mut [u8], q: Request)
 }
 
 // Call 2: from the stopped list to its ready tail.
-fn start(image: &mut [u8], q: Request)
+pub fn start(image: &mut Image, q: Request)
     requires whole { Whole image.old }
     requires allowed { Allowed start q (view image.old) }
     ensures { Does image.old (start_effect q) image.new }
@@ -37,7 +34,7 @@ fn start(image: &mut [u8], q: Request)
 }
 
 // Call 3: from its ready list to the stopped tail.
-fn stop(image: &mut [u8], q: Request)
+pub fn stop(image: &mut Image, q: Request)
     requires whole { Whole image.old }
     requires allowed { Allowed stop q (view image.old) }
     ensures { Does image.old (stop_effect q) image.new }
@@ -49,7 +46,7 @@ fn stop(image: &mut [u8], q: Request)
 }
 
 // Call 4: nothing is left of the running thread.
-fn exit(image: &mut [u8], q: Request)
+pub fn exit(image: &mut Image, q: Request)
     requires whole { Whole image.old }
     requires allowed { Allowed exit q (view image.old) }
     ensures { Does image.old (exit_effect q) image.new }
@@ -57,12 +54,11 @@ fn exit(image: &mut [u8], q: Request)
     let i = head::chosen(image) as usize;
     let p = threads::current(image, i) as usize;
     words::leave(image, p, i);
-    let x = rules::threads::absent_thread();
-    threads::store(image, i, x);
+    threads::store(image, i, rules::threads::absent_thread());
 }
 
 // Call 5: the running thread behind all others of its priority.
-fn yields(image: &mut [u8], q: Request)
+pub fn yields(image: &mut Image, q: Request)
     requires whole { Whole image.old }
     requires allowed { Allowed yield q (view image.old) }
     ensures { Does image.old (yield_effect q) image.new }
@@ -73,7 +69,7 @@ fn yields(image: &mut [u8], q: Request)
 }
 
 // Call 6.
-fn sleep(image: &mut [u8], q: Request)
+pub fn sleep(image: &mut Image, q: Request)
     requires whole { Whole image.old }
     requires allowed { Allowed sleep q (view image.old) }
     ensures { Does image.old (sleep_effect q) image.new }
@@ -83,8 +79,8 @@ fn sleep(image: &mut [u8], q: Request)
 }
 
 // Who owns a mutex doesn't fall by a new base.
-fn new_current(image: &[u8], i: usize, base: u8) -> u8
-    requires { Named 16 image.now i }
+fn new_current(image: &Image, i: usize, base: u8) -> u8
+    requires { i < 16 }
     ensures { result ≡ new_current i base (view image.now) }
 {
     let current = threads::current(image, i);
@@ -97,7 +93,7 @@ fn new_current(image: &[u8], i: usize, base: u8) -> u8
 }
 
 // Call 7: a new base, and the current priority that follows from it.
-fn set_priority(image: &mut [u8], q: Request)
+pub fn set_priority(image: &mut Image, q: Request)
     requires whole { Whole image.old }
     requires allowed { Allowed set_priority q (view image.old) }
     ensures { Does image.old (set_priority_effect q) image.new }
@@ -110,29 +106,10 @@ fn set_priority(image: &mut [u8], q: Request)
 }
 
 // Call 8.
-fn set_quantum(image: &mut [u8], q: Request)
+pub fn set_quantum(image: &mut Image, q: Request)
     requires whole { Whole image.old }
     requires allowed { Allowed set_quantum q (view image.old) }
     ensures { Does image.old (set_quantum_effect q) image.new }
 {
     threads::set_quantum(image, q.id as usize, q.a as u16, q.a as u16);
-}
-
-pub fn effect(image: &mut [u8], q: Request)
-    requires whole { Whole image.old }
-    requires accepted { Accepted q (view image.old) }
-    requires le_call { (1 ≤ q.call) × (q.call < 9) }
-    ensures { Does image.old (effect q) image.new }
-{
-    let call = q.call;
-    match call {
-        CREATE_THREAD => create_thread(image, q),
-        START => start(image, q),
-        STOP => stop(image, q),
-        EXIT => exit(image, q),
-        YIELD => yields(image, q),
-        SLEEP => sleep(image, q),
-        SET_PRIORITY => set_priority(image, q),
-        _ => set_quantum(image, q),
-    }
 }

@@ -1,4 +1,4 @@
-// For users: a fresh table, the soundness test, a whole call, an advance, the next wake-up, and the number of an answer. Each takes any table,
+// For users: a fresh table, the soundness test, a whole call, an advance, the next wake-up, and which answers accept. Each takes any table,
 // any rows and any numbers; where the table isn't sound the answer is 1, and every field stays as it was.
 #![tactic(auto)]
 
@@ -10,25 +10,13 @@ ghost use Rattle.model.specs.Promises.{advancing};
 ghost use Rattle.model.specs.Stored.{next_told};
 
 use model::answers::{Answer, Reply, Report};
-use model::calls::ADVANCE;
+use model::calls::Call;
 use model::requests::Request;
-use model::tables::{NOBODY, Table};
-pub use rules::numbers::{is_accepted, number};
+use model::tables::Table;
+pub use rules::numbers::is_accepted;
+use rules::reports::unsound;
 pub use soundness::is_sound;
 pub use table::fresh::{fresh, fresh_rows};
-
-// What is told of a table that isn't sound.
-fn unsound() -> Report
-    ensures { result ≡ record { answer = Unsound; chosen = nobody; clock = 0; wakeups = 0; next = 0 } }
-{
-    Report {
-        answer: Answer::Unsound,
-        chosen: NOBODY,
-        clock: 0,
-        wakeups: 0,
-        next: 0,
-    }
-}
 
 // Any call: its answer, what is reported beside it, and the table and rows handed back.
 pub fn call(t: Table, rows: &mut [[u8; 16]; 8], q: Request) -> Reply
@@ -36,17 +24,15 @@ pub fn call(t: Table, rows: &mut [[u8; 16]; 8], q: Request) -> Reply
 {
     let all = *rows;
     if is_sound(t, all) {
-        if q.call == ADVANCE {
-            time::timed(t, &mut *rows, q)
+        // One test: whether time passes is all that is asked here.
+        if q.call == Call::Advance as u32 {
+            time::timed(t, rows, q)
         } else {
-            kernel::untimed(t, &mut *rows, q)
+            kernel::untimed(t, rows, q)
         }
     } else {
         let report = unsound();
-        Reply {
-            report: report,
-            table: t,
-        }
+        Reply { report, table: t }
     }
 }
 
@@ -55,14 +41,14 @@ pub fn advance(t: Table, rows: &mut [[u8; 16]; 8], n: u32) -> Reply
     ensures { record { reply = result; rows = rows.new } ≡ call_table t rows.old (advancing n) }
 {
     let q = Request {
-        call: ADVANCE,
+        call: Call::Advance as u32,
         id: 0,
         a: n,
         b: 0,
         c: 0,
         d: 0,
     };
-    call(t, &mut *rows, q)
+    call(t, rows, q)
 }
 
 // The next wake-up by itself, worked out from the records; the report is that of a call that changes nothing.

@@ -32,6 +32,10 @@ use Rattle.layout.proofs.Images.{same_bytes}
 use Rattle.layout.proofs.Frames.{with_head, view_read, links_framed, in_head}
 use Rattle.layout.proofs.Frames.{in_threads, in_semaphores, in_mutexes, in_flags, in_timers}
 
+-- a number that names one of so many in an image
+pub named : {n i : ℕ} {s : List ℕ} → Sized s → i < n → Named n s i
+named size there = record { size = size; there = there }
+
 -- ---- one change after another
 
 module _ {s r : List ℕ} {f : State → State} (a : Alters s f r) where

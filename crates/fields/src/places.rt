@@ -48,3 +48,6 @@ pub const FIRSTS: usize = LINKS + THREAD_COUNT;
 pub const PREVIOUS: usize = FIRSTS + LINKED_LISTS;
 
 pub const IMAGE_LENGTH: usize = LINKS + 2 * (THREAD_COUNT + LINKED_LISTS);
+
+// The bytes of an image. That there are so many is known wherever one is lent.
+pub type Image = [u8; IMAGE_LENGTH];

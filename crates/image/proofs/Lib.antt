@@ -2,3 +2,4 @@ pub mod Fits
 pub mod Records
 pub mod RoundTrip
 pub mod SoundImage
+pub mod Made

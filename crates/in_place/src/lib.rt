@@ -5,42 +5,45 @@
 ghost use Rattle.std.specs.Prelude.{◌≡◌, eqb, length};
 ghost use Rattle.model.specs.Layout.{image_length};
 ghost use Rattle.model.specs.Promises.{advancing};
-ghost use Rattle.rules.specs.Reports.{unsound_report};
 ghost use Rattle.in_place.specs.Kept.{fresh_kept, told, kept, next_told};
 
-use fields::head;
-use fields::places::IMAGE_LENGTH;
+use fields::places::Image;
 use model::answers::{Answer, Report};
-use model::calls::ADVANCE;
+use model::calls::Call;
 use model::requests::Request;
-use model::tables::NOBODY;
-pub use rules::numbers::{is_accepted, number};
+pub use rules::numbers::is_accepted;
+use rules::reports::unsound;
 pub use sound::is_sound;
 use untimed::next;
-
-// What is told of an image that isn't sound.
-fn unsound() -> Report
-    ensures { result ≡ unsound_report }
-{
-    Report {
-        answer: Answer::Unsound,
-        chosen: NOBODY,
-        clock: 0,
-        wakeups: 0,
-        next: 0,
-    }
-}
 
 // Writes a fresh table where there is room for just one, and tells whether there was.
 pub fn fresh(image: &mut [u8]) -> bool
     ensures answer { result ≡ eqb (length image.old) image_length }
     ensures image { image.new ≡ fresh_kept image.old }
 {
-    if image.len() != IMAGE_LENGTH {
-        return false;
+    match image.as_mut_array() {
+        Some(image) => {
+            untimed::fresh::fresh(image);
+            true
+        }
+        None => false,
     }
-    untimed::fresh::fresh(image);
-    true
+}
+
+// A call where the length is right.
+fn call_of_length(image: &mut Image, q: Request) -> Report
+    ensures report { result ≡ told image.old q }
+    ensures image { image.new ≡ kept image.old q }
+{
+    if !is_sound(image) {
+        return unsound();
+    }
+    // One test: whether time passes is all that is asked here.
+    if q.call == Call::Advance as u32 {
+        timed::timed(image, q)
+    } else {
+        untimed::untimed(image, q)
+    }
 }
 
 // Any call: its answer and what is reported beside it; the image is changed in place.
@@ -48,13 +51,9 @@ pub fn call(image: &mut [u8], q: Request) -> Report
     ensures report { result ≡ told image.old q }
     ensures image { image.new ≡ kept image.old q }
 {
-    if !is_sound(image) {
-        return unsound();
-    }
-    if q.call == ADVANCE {
-        timed::timed(image, q)
-    } else {
-        untimed::untimed(image, q)
+    match image.as_mut_array() {
+        Some(image) => call_of_length(image, q),
+        None => unsound(),
     }
 }
 
@@ -64,7 +63,7 @@ pub fn advance(image: &mut [u8], n: u32) -> Report
     ensures image { image.new ≡ kept image.old (advancing n) }
 {
     let q = Request {
-        call: ADVANCE,
+        call: Call::Advance as u32,
         id: 0,
         a: n,
         b: 0,
@@ -74,18 +73,23 @@ pub fn advance(image: &mut [u8], n: u32) -> Report
     call(image, q)
 }
 
-// The next wake-up by itself, worked out from the records; the report is that of a call that changes nothing.
-pub fn next_wake_up(image: &[u8]) -> Report
+// The next wake-up where the length is right.
+fn next_of_length(image: &Image) -> Report
     ensures { result ≡ next_told image.now }
 {
     if !is_sound(image) {
         return unsound();
     }
-    Report {
-        answer: Answer::Done,
-        chosen: head::chosen(image),
-        clock: head::clock(image),
-        wakeups: 0,
-        next: next::next_wake_up(image),
+    let next = next::next_wake_up(image);
+    untimed::told(image, Answer::Done, 0, next)
+}
+
+// The next wake-up by itself, worked out from the records; the report is that of a call that changes nothing.
+pub fn next_wake_up(image: &[u8]) -> Report
+    ensures { result ≡ next_told image.now }
+{
+    match image.as_array() {
+        Some(image) => next_of_length(image),
+        None => unsound(),
     }
 }

@@ -1,5 +1,5 @@
-// The answer of every call on an image that words can be said of: which refusals are due, and which of them is given (01, Answers, and each
-// call's row). The order of the answers stands in `rules::due` and nowhere else. Nothing is changed here.
+// The answer of every call on an image that words can be said of. Which refusals are due and which of them is given is told in `answering`; here
+// is what it reads of an image.
 #![tactic(auto)]
 
 ghost use Rattle.std.specs.Prelude.{◌≡◌};
@@ -8,42 +8,86 @@ ghost use Rattle.model.specs.Kernel.{judge};
 ghost use Rattle.model.specs.Layout.{view};
 ghost use Rattle.words.specs.Images.{Whole};
 
+use answering::readable::Readable;
+use fields::places::Image;
+use fields::{head, semaphores};
 use model::answers::Answer;
-use model::calls::{
-    CALL_COUNT, CREATE_FLAGS, CREATE_MUTEX, CREATE_SEMAPHORE, CREATE_THREAD, SCHEDULING,
-    START_TIMER,
-};
+use model::lists::SEMAPHORE_LIST;
 use model::requests::Request;
+use model::tables::Mutex;
+use words::{objects, owners, standing};
 
-mod flags;
-mod mutexes;
-mod semaphores;
-mod threads;
-mod timers;
+#[derive(Clone, Copy)]
+struct Lent<'a> {
+    image: &'a Image,
+}
 
-// Which calls there are, and whose answer each is.
-pub fn answer(image: &[u8], q: Request) -> Answer
+impl Readable for Lent<'_> {
+    ghost state = { λ s. view s.image.now };
+
+    ghost readable = { λ s. Whole s.image.now };
+
+    fn chosen(&self) -> u8 {
+        head::chosen(self.image)
+    }
+
+    fn off(&self) -> u8 {
+        head::off(self.image)
+    }
+
+    fn has_thread(&self, i: u32) -> bool {
+        objects::has_thread(self.image, i)
+    }
+
+    fn has_semaphore(&self, o: u32) -> bool {
+        objects::has_semaphore(self.image, o)
+    }
+
+    fn has_mutex(&self, o: u32) -> bool {
+        objects::has_mutex(self.image, o)
+    }
+
+    fn has_flags(&self, o: u32) -> bool {
+        objects::has_flags(self.image, o)
+    }
+
+    fn is_ready(&self, i: u32) -> bool {
+        standing::is_ready(self.image, i)
+    }
+
+    fn is_stopped(&self, i: u32) -> bool {
+        standing::is_stopped(self.image, i)
+    }
+
+    fn owns_any(&self, i: u8) -> bool {
+        owners::owns_any(self.image, i)
+    }
+
+    fn count(&self, o: u32) -> u16 {
+        objects::count(self.image, o)
+    }
+
+    fn is_full(&self, o: u32) -> bool {
+        if o < 8 {
+            let k = o as usize;
+            return !standing::waited_for(self.image, SEMAPHORE_LIST + k)
+                & (semaphores::count(self.image, k) == semaphores::maximum(self.image, k));
+        }
+        false
+    }
+
+    fn mutex(&self, o: u32) -> Mutex {
+        objects::mutex(self.image, o)
+    }
+
+    fn word(&self, o: u32) -> u16 {
+        objects::word(self.image, o)
+    }
+}
+
+pub fn answer(image: &Image, q: Request) -> Answer
     requires { Whole image.now }
     ensures { result ≡ judge (numbered q.call) q (view image.now) }
 {
-    let call = q.call;
-    if (call < CREATE_THREAD) | (CALL_COUNT < call) {
-        return Answer::NoCall;
-    }
-    if call < CREATE_SEMAPHORE {
-        return threads::answer(image, q);
-    }
-    if call < CREATE_MUTEX {
-        return semaphores::answer(image, q);
-    }
-    if call < CREATE_FLAGS {
-        return mutexes::answer(image, q);
-    }
-    if call < START_TIMER {
-        return flags::answer(image, q);
-    }
-    if call < SCHEDULING {
-        return timers::answer(image, q);
-    }
-    rules::scheduling::answer(q)
+    answering::answer(&Lent { image }, q)
 }

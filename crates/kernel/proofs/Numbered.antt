@@ -1,29 +1,24 @@
--- A call of a table by its number: what it may assume, and what it does.
-use mathlib.Core.Path.{◌≡◌, sym, ◌∙◌, ap}
+-- A call of a table by its number: what it does, where it leaves the rows as they are, or the table too.
+use mathlib.Core.Path.{◌≡◌, sym, ap}
 use mathlib.Core.Option.{Option, some}
-use Prim.Native.Nat.{ℕ}
 use Rattle.model.specs.declared.requests.Request.{Request}
 use Rattle.model.specs.declared.tables.Table.{Table}
-use Rattle.model.specs.Answers.{accepted}
-use Rattle.model.specs.Calls.{Call, numbered}
-use Rattle.model.specs.Kernel.{judge}
+use Rattle.model.specs.Calls.{Call, numbered, advance}
 use Rattle.model.specs.Before as layout
 use Rattle.model.specs.Before.{view}
 use Rattle.table.specs.Orderly.{Meets, Does}
-use Rattle.table.proofs.Views.{meets_word, same_word}
-use Rattle.theorems.specs.Effect.{effect_of, effect}
-use Rattle.theorems.proofs.Numbered.{named, same_effect}
-use Rattle.kernel.specs.Allowed.{Allowed, Accepted}
+use Rattle.table.proofs.Stored.{sound-whole}
+use Rattle.table.proofs.Views.{does, same_word}
+use Rattle.theorems.specs.Effect.{effect_of, effect_by, effect}
+use Rattle.kernel.specs.Allowed.{Accepted}
 
--- by the number n of call c
-module _ (q : Request) (n : ℕ) (c : Call) (number : q.call ≡ n) (names : numbered n ≡ some c) where
-  pub allowed : {t : Table} {rows : layout.Rows} → Accepted q t rows → Allowed c q t rows
-  unfolding judge
-  allowed {t} {rows} a =
-      record { sound = a.sound; passed = ap (λ (o : Option Call). accepted (judge o q (view t rows))) (sym (named q n c number names)) ∙ a.passed }
+pub meets_effect : {t r : Table} {rows : layout.Rows} {q : Request} (c : Call) → numbered q.call ≡ some c → Accepted q t rows → Meets t (effect_of c q) r
+    → Does t rows (effect q) r rows
+unfolding effect_by
+meets_effect {t} {r} {rows} {q} c names a m =
+    same_word (effect q) (does rows (sound-whole a.sound).order m) (ap (λ (o : Option Call). effect_by o q (view t rows)) (sym names))
 
-  pub does_effect : {t r : Table} {rows after : layout.Rows} → Does t rows (effect_of c q) r after → Does t rows (effect q) r after
-  does_effect {t} {r} {rows} d = same_word (effect q) d (same_effect q n c number names (view t rows))
-
-  pub meets_effect : {t r : Table} → Meets t (effect_of c q) r → Meets t (effect q) r
-  meets_effect {t} m = meets_word (effect q) m (λ rows. same_effect q n c number names (view t rows))
+pub no_effect : {t : Table} {rows : layout.Rows} {q : Request} → numbered q.call ≡ some advance → Accepted q t rows → Does t rows (effect q) t rows
+unfolding effect_of effect_by
+no_effect {t} {rows} {q} names a =
+    record { order = (sound-whole a.sound).order; view = ap (λ (o : Option Call). effect_by o q (view t rows)) (sym names) }

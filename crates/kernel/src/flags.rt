@@ -4,11 +4,9 @@ ghost use Rattle.model.specs.Calls.{create_flags, wait, set, clear};
 ghost use Rattle.model.specs.Effects.{create_flags_effect, wait_effect, change_word, set_flags, set_effect, clear_effect};
 ghost use Rattle.model.specs.Before.{Rows};
 ghost use Rattle.table.specs.Orderly.{Whole, Given, Meets, Does};
-ghost use Rattle.kernel.specs.Allowed.{Allowed, Accepted};
-ghost use Rattle.theorems.specs.Effect.{effect};
+ghost use Rattle.kernel.specs.Allowed.{Allowed};
 ghost use Rattle.theorems.specs.Meeting.{wake_met};
 
-use model::calls::{CREATE_FLAGS, SET, WAIT};
 use model::lists::FLAGS_LIST;
 use model::requests::Request;
 use model::tables::{Flags, Table};
@@ -16,7 +14,7 @@ use rules::conditions;
 use table::{storing, threads, waking};
 
 // Call 15.
-fn create_flags(t: Table, q: Request) -> Table
+pub(crate) fn create_flags(t: Table, q: Request) -> Table
     requires { (rows : Rows) × Allowed create_flags q t rows }
     ensures { Meets t (create_flags_effect q) result }
 {
@@ -28,7 +26,7 @@ fn create_flags(t: Table, q: Request) -> Table
 }
 
 // Call 16: where the condition holds the whole word is delivered, else the running thread waits.
-fn wait(t: Table, rows: &mut [[u8; 16]; 8], q: Request) -> Table
+pub(crate) fn wait(t: Table, rows: &mut [[u8; 16]; 8], q: Request) -> Table
     requires { Allowed wait q t rows.old }
     ensures { Does t rows.old (wait_effect q) result rows.new }
 {
@@ -41,7 +39,7 @@ fn wait(t: Table, rows: &mut [[u8; 16]; 8], q: Request) -> Table
         let u = threads::with_result(t, c, 1);
         threads::with_delivered(u, c, x.word)
     } else {
-        waking::start_to_wait(t, &mut *rows, FLAGS_LIST + o, c, q.c, mask, mode)
+        waking::start_to_wait(t, rows, FLAGS_LIST + o, c, q.c, mask, mode)
     }
 }
 
@@ -53,7 +51,7 @@ fn wake_met(t: Table, rows: &mut [[u8; 16]; 8], i: u8, word: u16) -> Table
     let x = threads::thread(t, i);
     if conditions::holds(x.mode, x.mask, word) {
         let u = threads::with_delivered(t, i, word);
-        waking::wake(u, &mut *rows, i, 1)
+        waking::wake(u, rows, i, 1)
     } else {
         t
     }
@@ -71,10 +69,8 @@ fn change_word(t: Table, rows: &mut [[u8; 16]; 8], o: usize, word: u16) -> Table
     let mut x = t.flags[o];
     x.word = word;
     let mut u = storing::with_flags(t, o, x);
-    let mut k: usize = 0;
-    while k < n {
-        u = wake_met(u, &mut *rows, ids[k], word);
-        k += 1;
+    for i in &ids[..n] {
+        u = wake_met(u, rows, *i, word);
     }
     u
 }
@@ -85,38 +81,24 @@ pub fn set_flags(t: Table, rows: &mut [[u8; 16]; 8], o: usize, mask: u16) -> Tab
     ensures { Does t rows.old (set_flags o mask) result rows.new }
 {
     let x = t.flags[o];
-    change_word(t, &mut *rows, o, x.word | mask)
+    change_word(t, rows, o, x.word | mask)
 }
 
 // Call 17.
-fn set(t: Table, rows: &mut [[u8; 16]; 8], q: Request) -> Table
+pub(crate) fn set(t: Table, rows: &mut [[u8; 16]; 8], q: Request) -> Table
     requires { Allowed set q t rows.old }
     ensures { Does t rows.old (set_effect q) result rows.new }
 {
-    set_flags(t, &mut *rows, q.id as usize, q.a as u16)
+    set_flags(t, rows, q.id as usize, q.a as u16)
 }
 
 // Call 18: the bits that word and mask share are taken away.
-fn clear(t: Table, rows: &mut [[u8; 16]; 8], q: Request) -> Table
+pub(crate) fn clear(t: Table, rows: &mut [[u8; 16]; 8], q: Request) -> Table
     requires { Allowed clear q t rows.old }
     ensures { Does t rows.old (clear_effect q) result rows.new }
 {
     let o = q.id as usize;
     let mask = q.a as u16;
     let x = t.flags[o];
-    change_word(t, &mut *rows, o, x.word - (x.word & mask))
-}
-
-pub fn effect(t: Table, rows: &mut [[u8; 16]; 8], q: Request) -> Table
-    requires accepted { Accepted q t rows.old }
-    requires le_call { (15 ≤ q.call) × (q.call < 19) }
-    ensures { Does t rows.old (effect q) result rows.new }
-{
-    let call = q.call;
-    match call {
-        CREATE_FLAGS => create_flags(t, q),
-        WAIT => wait(t, &mut *rows, q),
-        SET => set(t, &mut *rows, q),
-        _ => clear(t, &mut *rows, q),
-    }
+    change_word(t, rows, o, x.word - (x.word & mask))
 }

@@ -11,7 +11,7 @@ ghost use Rattle.kernel.specs.Allowed.{Accepted};
 ghost use Rattle.theorems.specs.Effect.{effect};
 
 use model::answers::{Answer, Reply, Report};
-use model::calls::{CREATE_FLAGS, CREATE_MUTEX, CREATE_SEMAPHORE, SCHEDULING, START_TIMER};
+use model::calls::Call;
 use model::requests::Request;
 use model::tables::Table;
 use rules::numbers;
@@ -25,28 +25,39 @@ pub mod semaphores;
 mod threads;
 mod timers;
 
+// The effect of a call in which no time passes.
+#[tactic(auto, unfolding(theorems::specs::Effect::effect_by, theorems::specs::Effect::effect_of, model::specs::Kernel::judge))]
 fn effect(t: Table, rows: &mut [[u8; 16]; 8], q: Request) -> Table
     requires accepted { Accepted q t rows.old }
     requires call_bound { q.call < 22 }
     ensures { Does t rows.old (effect q) result rows.new }
 {
-    let call = q.call;
-    if call < CREATE_SEMAPHORE {
-        return threads::effect(t, &mut *rows, q);
+    match Call::try_from(q.call) {
+        Ok(Call::CreateThread) => threads::create_thread(t, q),
+        Ok(Call::Start) => threads::start(t, rows, q),
+        Ok(Call::Stop) => threads::stop(t, rows, q),
+        Ok(Call::Exit) => threads::exit(t, rows, q),
+        Ok(Call::Yield) => threads::yields(t, rows, q),
+        Ok(Call::Sleep) => threads::sleep(t, rows, q),
+        Ok(Call::SetPriority) => threads::set_priority(t, rows, q),
+        Ok(Call::SetQuantum) => threads::set_quantum(t, q),
+        Ok(Call::CreateSemaphore) => semaphores::create_semaphore(t, q),
+        Ok(Call::Pend) => semaphores::pend(t, rows, q),
+        Ok(Call::Post) => semaphores::post(t, rows, q),
+        Ok(Call::CreateMutex) => mutexes::create_mutex(t, q),
+        Ok(Call::Claim) => mutexes::claim(t, rows, q),
+        Ok(Call::Release) => mutexes::release(t, rows, q),
+        Ok(Call::CreateFlags) => flags::create_flags(t, q),
+        Ok(Call::Wait) => flags::wait(t, rows, q),
+        Ok(Call::Set) => flags::set(t, rows, q),
+        Ok(Call::Clear) => flags::clear(t, rows, q),
+        Ok(Call::StartTimer) => timers::start_timer(t, q),
+        Ok(Call::StopTimer) => timers::stop_timer(t, q),
+        Ok(Call::Scheduling) => scheduling::scheduling(t, q),
+        // Neither is accepted where no time passes.
+        Ok(Call::Advance) => t,
+        Err(_) => t,
     }
-    if call < CREATE_MUTEX {
-        return semaphores::effect(t, &mut *rows, q);
-    }
-    if call < CREATE_FLAGS {
-        return mutexes::effect(t, &mut *rows, q);
-    }
-    if call < START_TIMER {
-        return flags::effect(t, &mut *rows, q);
-    }
-    if call < SCHEDULING {
-        return timers::effect(t, q);
-    }
-    scheduling::scheduling(t, q)
 }
 
 // The effect, then the choice (01, Calls, on choosing).
@@ -55,7 +66,7 @@ fn perform(t: Table, rows: &mut [[u8; 16]; 8], q: Request) -> Table
     requires call_bound { q.call < 22 }
     ensures { Does t rows.old (perform true (numbered q.call) q) result rows.new }
 {
-    let u = effect(t, &mut *rows, q);
+    let u = effect(t, rows, q);
     let all = *rows;
     choosing::choose(u, all)
 }
@@ -67,7 +78,7 @@ fn next_table(t: Table, rows: &mut [[u8; 16]; 8], q: Request, a: Answer) -> Tabl
     ensures { Does t rows.old (next_state a q) result rows.new }
 {
     if numbers::is_accepted(a) {
-        perform(t, &mut *rows, q)
+        perform(t, rows, q)
     } else {
         t
     }
@@ -78,11 +89,11 @@ pub fn report(t: Table, answer: Answer, wakeups: u32, next: u32) -> Report
     ensures { result ≡ record { answer = answer; chosen = t.chosen; clock = t.clock; wakeups = wakeups; next = next } }
 {
     Report {
-        answer: answer,
+        answer,
         chosen: t.chosen,
         clock: t.clock,
-        wakeups: wakeups,
-        next: next,
+        wakeups,
+        next,
     }
 }
 
@@ -90,9 +101,8 @@ pub fn report(t: Table, answer: Answer, wakeups: u32, next: u32) -> Report
 pub fn reply(t: Table, answer: Answer, wakeups: u32, next: u32) -> Reply
     ensures { result ≡ record { report = record { answer = answer; chosen = t.chosen; clock = t.clock; wakeups = wakeups; next = next }; table = t } }
 {
-    let told = report(t, answer, wakeups, next);
     Reply {
-        report: told,
+        report: report(t, answer, wakeups, next),
         table: t,
     }
 }
@@ -105,7 +115,7 @@ pub fn untimed(t: Table, rows: &mut [[u8; 16]; 8], q: Request) -> Reply
 {
     let before = *rows;
     let answer = refusals::answer(t, before, q);
-    let u = next_table(t, &mut *rows, q, answer);
+    let u = next_table(t, rows, q, answer);
     let next = next::next_wake_up(u);
     reply(u, answer, 0, next)
 }

@@ -6,10 +6,8 @@ ghost use Rattle.model.specs.Calls.{create_mutex, claim, release};
 ghost use Rattle.model.specs.Effects.{create_mutex_effect, raise, claim_effect, fall, hand_over, release_effect};
 ghost use Rattle.model.specs.Before.{Rows, thread_at};
 ghost use Rattle.table.specs.Orderly.{Whole, Given, Meets, Does};
-ghost use Rattle.kernel.specs.Allowed.{Allowed, Accepted};
-ghost use Rattle.theorems.specs.Effect.{effect};
+ghost use Rattle.kernel.specs.Allowed.{Allowed};
 
-use model::calls::{CLAIM, CREATE_MUTEX};
 use model::lists::MUTEX_LIST;
 use model::requests::Request;
 use model::tables::{Mutex, Table};
@@ -17,7 +15,7 @@ use rules::owners;
 use table::{priorities, storing, threads, waking};
 
 // Call 12.
-fn create_mutex(t: Table, q: Request) -> Table
+pub fn create_mutex(t: Table, q: Request) -> Table
     requires { (rows : Rows) × Allowed create_mutex q t rows }
     ensures { Meets t (create_mutex_effect q) result }
 {
@@ -38,14 +36,14 @@ fn raise(t: Table, rows: &mut [[u8; 16]; 8], i: u8, from: u8) -> Table
     let x = threads::thread(t, i);
     let y = threads::thread(t, from);
     if x.current < y.current {
-        priorities::take_priority(t, &mut *rows, i, y.current)
+        priorities::take_priority(t, rows, i, y.current)
     } else {
         t
     }
 }
 
 // Call 13: another's mutex is waited for, and its owner raised; else it is the running thread's, once more if it was already.
-fn claim(t: Table, rows: &mut [[u8; 16]; 8], q: Request) -> Table
+pub fn claim(t: Table, rows: &mut [[u8; 16]; 8], q: Request) -> Table
     requires { Allowed claim q t rows.old }
     ensures { Does t rows.old (claim_effect q) result rows.new }
 {
@@ -53,11 +51,11 @@ fn claim(t: Table, rows: &mut [[u8; 16]; 8], q: Request) -> Table
     let c = t.chosen;
     let mut x = t.mutexes[o];
     if owners::is_others(x, c) {
-        let u = waking::start_to_wait(t, &mut *rows, MUTEX_LIST + o, c, q.a, 0, 0);
-        raise(u, &mut *rows, x.owner, c)
+        let u = waking::start_to_wait(t, rows, MUTEX_LIST + o, c, q.a, 0, 0);
+        raise(u, rows, x.owner, c)
     } else {
         x.owner = c;
-        x.depth = x.depth + 1;
+        x.depth += 1;
         let u = storing::with_mutex(t, o, x);
         threads::with_result(u, c, 1)
     }
@@ -70,7 +68,7 @@ fn fall(t: Table, rows: &mut [[u8; 16]; 8], i: u8) -> Table
     ensures { Does t rows.old (fall i) result rows.new }
 {
     let x = threads::thread(t, i);
-    priorities::take_priority(t, &mut *rows, i, x.base)
+    priorities::take_priority(t, rows, i, x.base)
 }
 
 // The first waiter owns it and is woken; with none it is unowned.
@@ -90,35 +88,22 @@ fn hand_over(t: Table, rows: &mut [[u8; 16]; 8], o: usize) -> Table
         x.owner = ids[0];
         x.depth = 1;
         let u = storing::with_mutex(t, o, x);
-        waking::wake(u, &mut *rows, x.owner, 1)
+        waking::wake(u, rows, x.owner, 1)
     }
 }
 
 // Call 14: with the last level first the fall, then the new owner.
-fn release(t: Table, rows: &mut [[u8; 16]; 8], q: Request) -> Table
+pub fn release(t: Table, rows: &mut [[u8; 16]; 8], q: Request) -> Table
     requires { Allowed release q t rows.old }
     ensures { Does t rows.old (release_effect q) result rows.new }
 {
     let o = q.id as usize;
     let mut x = t.mutexes[o];
     if x.depth == 1 {
-        let u = fall(t, &mut *rows, t.chosen);
-        hand_over(u, &mut *rows, o)
+        let u = fall(t, rows, t.chosen);
+        hand_over(u, rows, o)
     } else {
-        x.depth = x.depth - 1;
+        x.depth -= 1;
         storing::with_mutex(t, o, x)
-    }
-}
-
-pub fn effect(t: Table, rows: &mut [[u8; 16]; 8], q: Request) -> Table
-    requires accepted { Accepted q t rows.old }
-    requires le_call { (12 ≤ q.call) × (q.call < 15) }
-    ensures { Does t rows.old (effect q) result rows.new }
-{
-    let call = q.call;
-    match call {
-        CREATE_MUTEX => create_mutex(t, q),
-        CLAIM => claim(t, &mut *rows, q),
-        _ => release(t, &mut *rows, q),
     }
 }

@@ -1,43 +1,14 @@
 // The next wake-up, worked out from the records each time it is asked for: nothing is kept that could be out of date.
-ghost use Rattle.std.specs.Prelude.{◌≡◌, cond, map, leb, get_or};
-ghost use Rattle.sequences.specs.Lists.{nearest};
-ghost use Rattle.model.specs.declared.tables.Thread.{Thread};
-ghost use Rattle.model.specs.declared.tables.Timer.{Timer};
+ghost use Rattle.std.specs.Prelude.{◌≡◌, cond, leb, get_or};
 ghost use Rattle.model.specs.Parts.{thread};
 ghost use Rattle.model.specs.Tick.{quantum_counts};
 ghost use Rattle.model.specs.Time.{next};
 ghost use Rattle.model.specs.Before.{Rows, view};
 ghost use Rattle.table.specs.Orderly.{Orderly};
 
-use model::tables::{Table, Thread, Timer};
+use model::tables::Table;
 use rules::counting;
 use table::objects;
-
-fn nearest_timer(timers: [Timer; 8]) -> u32
-    ensures { result ≡ nearest (map (λ (t : Timer). t.left) timers) }
-{
-    let mut least: u32 = 0;
-    let mut o: usize = 8;
-    while 0 < o {
-        o = o - 1;
-        let x = timers[o];
-        least = counting::nearer(x.left, least);
-    }
-    least
-}
-
-fn nearest_limit(threads: [Thread; 16]) -> u32
-    ensures { result ≡ nearest (map (λ (t : Thread). t.limit) threads) }
-{
-    let mut least: u32 = 0;
-    let mut i: usize = 16;
-    while 0 < i {
-        i = i - 1;
-        let x = threads[i];
-        least = counting::nearer(x.limit, least);
-    }
-    least
-}
 
 // Whether two threads or more stand on the ready list of priority p. Past the last priority there is no list.
 fn is_shared(lengths: [u8; 8], p: u8) -> bool
@@ -67,11 +38,9 @@ pub fn next_wake_up(t: Table) -> u32
     requires { (rows : Rows) × Orderly t rows }
     ensures { (rows : Rows) → Orderly t rows → result ≡ next (view t rows) }
 {
-    let timers = t.timers;
-    let all = t.threads;
-    let quantum = quantum_left(t) as u32;
-    let timer = nearest_timer(timers);
-    let limit = nearest_limit(all);
+    let quantum = u32::from(quantum_left(t));
+    let timer = t.timers.iter().map(|x| x.left).fold(0, counting::nearer);
+    let limit = t.threads.iter().map(|x| x.limit).fold(0, counting::nearer);
     let later = counting::nearer(timer, limit);
     counting::nearer(quantum, later)
 }

@@ -5,17 +5,15 @@ ghost use Rattle.model.specs.Calls.{create_semaphore, pend, post};
 ghost use Rattle.model.specs.Effects.{create_semaphore_effect, pend_effect, one_more, post_semaphore, post_effect};
 ghost use Rattle.model.specs.Before.{Rows};
 ghost use Rattle.table.specs.Orderly.{OrderlyTable, Whole, Meets, Does};
-ghost use Rattle.kernel.specs.Allowed.{Allowed, Accepted};
-ghost use Rattle.theorems.specs.Effect.{effect};
+ghost use Rattle.kernel.specs.Allowed.{Allowed};
 
-use model::calls::{CREATE_SEMAPHORE, PEND};
 use model::lists::SEMAPHORE_LIST;
 use model::requests::Request;
 use model::tables::{Semaphore, Table};
 use table::{storing, threads, waking};
 
 // Call 9.
-fn create_semaphore(t: Table, q: Request) -> Table
+pub(crate) fn create_semaphore(t: Table, q: Request) -> Table
     requires { (rows : Rows) × Allowed create_semaphore q t rows }
     ensures { Meets t (create_semaphore_effect q) result }
 {
@@ -28,16 +26,16 @@ fn create_semaphore(t: Table, q: Request) -> Table
 }
 
 // Call 10: a count above 0 is taken, else the running thread waits.
-fn pend(t: Table, rows: &mut [[u8; 16]; 8], q: Request) -> Table
+pub(crate) fn pend(t: Table, rows: &mut [[u8; 16]; 8], q: Request) -> Table
     requires { Allowed pend q t rows.old }
     ensures { Does t rows.old (pend_effect q) result rows.new }
 {
     let o = q.id as usize;
     let mut x = t.semaphores[o];
     if x.count == 0 {
-        waking::start_to_wait(t, &mut *rows, SEMAPHORE_LIST + o, t.chosen, q.a, 0, 0)
+        waking::start_to_wait(t, rows, SEMAPHORE_LIST + o, t.chosen, q.a, 0, 0)
     } else {
-        x.count = x.count - 1;
+        x.count -= 1;
         let u = storing::with_semaphore(t, o, x);
         threads::with_result(u, t.chosen, 1)
     }
@@ -51,7 +49,7 @@ fn count_up(t: Table, o: usize) -> Table
 {
     let mut x = t.semaphores[o];
     if x.count < x.maximum {
-        x.count = x.count + 1;
+        x.count += 1;
         storing::with_semaphore(t, o, x)
     } else {
         t
@@ -69,27 +67,14 @@ pub fn post_semaphore(t: Table, rows: &mut [[u8; 16]; 8], o: usize) -> Table
         count_up(t, o)
     } else {
         let ids = l.ids;
-        waking::wake(t, &mut *rows, ids[0], 1)
+        waking::wake(t, rows, ids[0], 1)
     }
 }
 
 // Call 11.
-fn post(t: Table, rows: &mut [[u8; 16]; 8], q: Request) -> Table
+pub(crate) fn post(t: Table, rows: &mut [[u8; 16]; 8], q: Request) -> Table
     requires { Allowed post q t rows.old }
     ensures { Does t rows.old (post_effect q) result rows.new }
 {
-    post_semaphore(t, &mut *rows, q.id as usize)
-}
-
-pub fn effect(t: Table, rows: &mut [[u8; 16]; 8], q: Request) -> Table
-    requires accepted { Accepted q t rows.old }
-    requires le_call { (9 ≤ q.call) × (q.call < 12) }
-    ensures { Does t rows.old (effect q) result rows.new }
-{
-    let call = q.call;
-    match call {
-        CREATE_SEMAPHORE => create_semaphore(t, q),
-        PEND => pend(t, &mut *rows, q),
-        _ => post(t, &mut *rows, q),
-    }
+    post_semaphore(t, rows, q.id as usize)
 }

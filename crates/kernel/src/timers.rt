@@ -4,16 +4,14 @@ ghost use Rattle.model.specs.Calls.{start_timer, stop_timer};
 ghost use Rattle.model.specs.Effects.{start_timer_effect, stop_timer_effect};
 ghost use Rattle.model.specs.Before.{Rows};
 ghost use Rattle.table.specs.Orderly.{Meets};
-ghost use Rattle.kernel.specs.Allowed.{Allowed, Accepted};
-ghost use Rattle.theorems.specs.Effect.{effect};
+ghost use Rattle.kernel.specs.Allowed.{Allowed};
 
-use model::calls::START_TIMER;
 use model::requests::Request;
 use model::tables::Table;
 use table::storing;
 
 // Call 19: everything anew but the count.
-fn start_timer(t: Table, q: Request) -> Table
+pub fn start_timer(t: Table, q: Request) -> Table
     requires { (rows : Rows) × Allowed start_timer q t rows }
     ensures { Meets t (start_timer_effect q) result }
 {
@@ -29,7 +27,7 @@ fn start_timer(t: Table, q: Request) -> Table
 }
 
 // Call 20.
-fn stop_timer(t: Table, q: Request) -> Table
+pub fn stop_timer(t: Table, q: Request) -> Table
     requires { (rows : Rows) × Allowed stop_timer q t rows }
     ensures { Meets t (stop_timer_effect q) result }
 {
@@ -37,16 +35,4 @@ fn stop_timer(t: Table, q: Request) -> Table
     let mut x = t.timers[o];
     x.left = 0;
     storing::with_timer(t, o, x)
-}
-
-pub fn effect(t: Table, q: Request) -> Table
-    requires accepted { (rows : Rows) × Accepted q t rows }
-    requires le_call { (19 ≤ q.call) × (q.call < 21) }
-    ensures { Meets t (effect q) result }
-{
-    if q.call == START_TIMER {
-        start_timer(t, q)
-    } else {
-        stop_timer(t, q)
-    }
 }

@@ -1,4 +1,4 @@
-// The table as a value that its user holds, an array of its image's bytes: covered functions take one and hand one back; the thin functions behind
+// The table as a value that its user holds, an array of its image's bytes: covered methods take one and hand one back; the thin methods behind
 // them are lent one, call those and store the result.
 #![tactic(auto)]
 
@@ -23,58 +23,60 @@ pub struct Replied {
     pub table: Held,
 }
 
-// ---- by value
+impl Held {
+    // ---- by value
 
-pub fn fresh_held() -> Held
-    ensures { result ≡ record { image = lay fresh } }
-{
-    let mut image = [0; IMAGE_LENGTH];
-    in_place::fresh(&mut image);
-    Held { image: image }
-}
-
-pub fn called(t: Held, q: Request) -> Replied
-    ensures { result ≡ call_held t q }
-{
-    let mut image = t.image;
-    let report = in_place::call(&mut image, q);
-    Replied {
-        report: report,
-        table: Held { image: image },
+    pub fn new() -> Held
+        ensures { result ≡ record { image = lay fresh } }
+    {
+        let mut image = [0; IMAGE_LENGTH];
+        in_place::fresh(&mut image);
+        Held { image }
     }
-}
 
-pub fn advanced(t: Held, n: u32) -> Replied
-    ensures { result ≡ call_held t (advancing n) }
-{
-    let mut image = t.image;
-    let report = in_place::advance(&mut image, n);
-    Replied {
-        report: report,
-        table: Held { image: image },
+    pub fn called(self, q: Request) -> Replied
+        ensures { result ≡ call_held self q }
+    {
+        let mut image = self.image;
+        let report = in_place::call(&mut image, q);
+        Replied {
+            report,
+            table: Held { image },
+        }
     }
-}
 
-// ---- over a table that is lent
+    pub fn advanced(self, n: u32) -> Replied
+        ensures { result ≡ call_held self (advancing n) }
+    {
+        let mut image = self.image;
+        let report = in_place::advance(&mut image, n);
+        Replied {
+            report,
+            table: Held { image },
+        }
+    }
 
-pub fn fresh(t: &mut Held)
-    ensures { t.new ≡ record { image = lay fresh } }
-{
-    *t = fresh_held();
-}
+    // ---- over a table that is lent
 
-pub fn call(t: &mut Held, q: Request) -> Report
-    ensures { record { report = result; table = t.new } ≡ call_held t.old q }
-{
-    let reply = called(*t, q);
-    *t = reply.table;
-    reply.report
-}
+    pub fn fresh(&mut self)
+        ensures { self.new ≡ record { image = lay fresh } }
+    {
+        *self = Held::new();
+    }
 
-pub fn advance(t: &mut Held, n: u32) -> Report
-    ensures { record { report = result; table = t.new } ≡ call_held t.old (advancing n) }
-{
-    let reply = advanced(*t, n);
-    *t = reply.table;
-    reply.report
+    pub fn call(&mut self, q: Request) -> Report
+        ensures { record { report = result; table = self.new } ≡ call_held self.old q }
+    {
+        let reply = self.called(q);
+        *self = reply.table;
+        reply.report
+    }
+
+    pub fn advance(&mut self, n: u32) -> Report
+        ensures { record { report = result; table = self.new } ≡ call_held self.old (advancing n) }
+    {
+        let reply = self.advanced(n);
+        *self = reply.table;
+        reply.report
+    }
 }

@@ -1,25 +1,20 @@
 -- Every list followed: what is noted then of each id, and that the links are orderly where who stands on no list has no links.
 use mathlib.Core.Path.{◌≡◌, refl, sym, ◌∙◌, ap}
-use mathlib.Core.List.{List, [], ◌∷◌}
+use mathlib.Core.List.{List, []}
 use Prim.Native.Nat.{ℕ, ◌+◌, ◌<◌, ◌≤◌}
 use native.Mathlib.Omega.{arith}
 use lib.ListN.{length, get_or, take, drop, replicate, length-replicate, get_or-replicate, length-map}
 use lib.Seq.{get_or-take, get_or-drop, take_all}
-use Rattle.sequences.specs.Lists.{reversed, count, count_all}
-use Rattle.sequences.specs.Links.{leads, lists_in, head_link, Once}
-use Rattle.sequences.proofs.Counts.{count-append, count-first, count_all-place}
+use Rattle.sequences.specs.Lists.{reversed, count_all}
+use Rattle.sequences.specs.Links.{leads, lists_in, Once}
+use Rattle.sequences.proofs.Counts.{count_all-place}
 use Rattle.sequences.proofs.Parts.{counted_below}
-use Rattle.sequences.proofs.Removal.{split_counted}
 use Rattle.sequences.proofs.Reversed.{reversed-at, count-reversed, count_all-reversed}
-use Rattle.sequences.proofs.Chains.{chain_after}
-use Rattle.sequences.proofs.Halves.{member_inside}
+use Rattle.sequences.proofs.Halves.{once-reversed}
 use Rattle.sequences.proofs.Linked.{many-lists}
 use Rattle.links.specs.Noted.{Through, Noted}
+use Rattle.links.proofs.Neighbours.{leads_most}
 use Rattle.links.proofs.Marks.{mark-none, marked-counted}
-
-head_most : (n : ℕ) (l : List ℕ) → ((x : ℕ) → 0 < count x l → x < n) → head_link l ≤ n
-head_most n [] known = omega arith
-head_most n (x ∷ l) known = known x (count-first x l)
 
 pub through_start : (n m : ℕ) (s marks : List ℕ) → marks ≡ replicate n 0 → Through n m 0 s marks
 through_start n m s marks e =
@@ -49,15 +44,9 @@ module _ {n m : ℕ} {s marks : List ℕ} (size : length s ≡ n + m + (n + m)) 
   link_back : (x : ℕ) → 0 < count_all x lists → leads (drop (n + m) s) x ≤ n
   link_back x h =
       let p = count_all-place x lists h in
-      let i = p.0 in
-      let l = get_or lists i [] in
-      let below : i < m = omega (arith, counted_below x lists i p.1, many-lists n m s size) in
-      let r = split_counted x (reversed l) (rw (count-reversed x l) p.1) in
-      let known : (y : ℕ) → 0 < count y r.1 → y < n =
-      λ y q.
-      member_inside apart i y
-      (omega (arith, count-reversed y l, ap (count y) r.2, count-append y r.0 (x ∷ r.1))) in
-      rw (chain_after (leads (drop (n + m) s)) (n + i) x r.0 r.1 (rw r.2 at (t.back i below))) (head_most n r.1 known)
+      let below : p.0 < m = omega (arith, counted_below x lists p.0 p.1, many-lists n m s size) in
+      leads_most (once-reversed apart) (leads (drop (n + m) s)) p.0 (rw (reversed-at lists p.0) (t.back p.0 below)) x
+      (rw (reversed-at lists p.0) (omega (arith, p.1, count-reversed x (get_or lists p.0 []))))
 
   pub through_noted : Noted n m s marks
   through_noted =

@@ -1,5 +1,6 @@
 pub mod Stores
 pub mod Neighbours
+pub mod Positions
 pub mod Ways
 pub mod Entered
 pub mod Standing

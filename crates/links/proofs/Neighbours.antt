@@ -13,8 +13,8 @@ use lib.Dec.{eqb}
 use lib.ListN.{length, get_or, take, drop, length-drop, length-map, get_or-map}
 use lib.Seq.{length-take-le, get_or-take, get_or-drop}
 use Rattle.sequences.specs.Lists.{count, count_all, first_at, without, snoc, reversed}
-use Rattle.sequences.specs.Links.{last_cell, head_link, leads, Half, Once, Linked}
-use Rattle.sequences.proofs.Counts.{count-one, count_other, count_mid, count_two, count_all-at, count_all-place, count_all_gone, count_all-kept}
+use Rattle.sequences.specs.Links.{last_cell, head_link, leads, Chain, Half, Once, Linked}
+use Rattle.sequences.proofs.Counts.{count-append, count-first, count-one, count_other, count_mid, count_two, count_all-at, count_all-place, count_all_gone, count_all-kept}
 use Rattle.sequences.proofs.Parts.{counted_below}
 use Rattle.sequences.proofs.Removal.{without-none, map-without-none, split_counted, without-put}
 use Rattle.sequences.proofs.Reversed.{reversed-put, reversed-at, each-reversed_twice, count_all-reversed}
@@ -43,6 +43,27 @@ last_link c (x ∷ a) = last_link x a ∙ by_cases (reversed a)
     by_cases : (l : List ℕ) → cell_of x (head_link l) ≡ cell_of c (head_link (snoc x l))
     by_cases [] = refl
     by_cases (y ∷ l) = refl
+
+-- ---- a link leads to an id
+
+head_most : (n : ℕ) (l : List ℕ) → ((x : ℕ) → 0 < count x l → x < n) → head_link l ≤ n
+head_most n [] known = omega arith
+head_most n (x ∷ l) known = known x (count-first x l)
+
+pub leads_most : {n : ℕ} {ls : List (List ℕ)} → Once n ls → (f : ℕ → ℕ) (j : ℕ) → Chain f (n + j) (get_or ls j []) → (x : ℕ)
+    → 0 < count x (get_or ls j []) → f x ≤ n
+leads_most {n} {ls} once f j chain x on =
+    let r = split_counted x (get_or ls j []) on in
+    let known : (y : ℕ) → 0 < count y r.1 → y < n =
+    λ y q. member_inside once j y (omega (arith, ap (count y) r.2, count-append y r.0 (x ∷ r.1))) in
+    rw (chain_after f (n + j) x r.0 r.1 (rw r.2 at chain)) (head_most n r.1 known)
+
+half_most : {n : ℕ} {f : ℕ → ℕ} {ls : List (List ℕ)} → Once n ls → Half n f ls → (x : ℕ) → x < n → f x ≤ n
+half_most {n} {f} {ls} once half x within =
+    elim (dec_lt 0 (count_all x ls)) [
+      | yes h ↦ let p = count_all-place x ls h in leads_most once f p.0 (half.chains p.0 (counted_below x ls p.0 p.1)) x p.1
+      | no h ↦ omega (arith, half.zeros x within (omega arith))
+    ]
 
 -- ---- two halves that face each other
 
@@ -249,6 +270,12 @@ module _ {n m : ℕ} {s : List ℕ} {ls : List (List ℕ)} {i y z : ℕ} (v : Li
 module _ {n m : ℕ} {s : List ℕ} {ls : List (List ℕ)} (v : Linked n m s ls) (i : ℕ) (within : i < n) where
   off-none : count_all i ls ≡ 0 → before n m 0 (n + m) i s ≡ n + m
   off-none = before-none s (facing_of v) v.many i 0 (omega (arith, v.size)) (each-ahead v i) (n + m) (back_is v i) within
+
+  pub ahead_most : get_or s i 0 ≤ n
+  ahead_most = omega (arith, get_or-take (n + m) s i 0 (omega arith), half_most v.apart v.ahead i within)
+
+  pub back_most : get_or s (n + m + i) 0 ≤ n
+  back_most = omega (arith, get_or-drop (n + m) s i 0, half_most (once-reversed v.apart) v.back i within)
 
   pub searched : before n m 0 (n + m) i s < n + m → Beside n i (before n m 0 (n + m) i s) (before n m (n + m) 0 i s) ls
   searched h =

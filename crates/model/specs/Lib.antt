@@ -5,6 +5,8 @@ pub mod Words
 pub mod Sound
 pub mod Answers
 pub mod Calls
+pub mod Numbers
+pub mod Kinds
 pub mod Effects
 pub mod Tick
 pub mod Time

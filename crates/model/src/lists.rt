@@ -1,4 +1,5 @@
-// The numbers of the lists that are no ready lists, as State.antt has them: sleepers, stopped threads, then a wait list for each object.
+// The numbers of the lists that are no ready lists, as State.antt has them: sleepers, stopped threads, then a wait list for each object. They are
+// indices into `waits`, and an object's id is added to its first, so they are no enum.
 pub const SLEEP_LIST: usize = 0;
 
 pub const STOPPED_LIST: usize = 1;

@@ -3,10 +3,10 @@
 
 use crate::lists::LIST_COUNT;
 
-// How the choice of no thread is written.
+// How the choice of no thread is written, in an image and to users of C alike.
 pub const NOBODY: u8 = 255;
 
-#[derive(Clone, Copy)]
+#[derive(Clone, Copy, Default, PartialEq)]
 pub struct Thread {
     pub created: u8,
     pub base: u8,
@@ -20,7 +20,7 @@ pub struct Thread {
     pub delivered: u16,
 }
 
-#[derive(Clone, Copy)]
+#[derive(Clone, Copy, Default)]
 pub struct Semaphore {
     pub created: u8,
     pub count: u16,
@@ -28,21 +28,21 @@ pub struct Semaphore {
 }
 
 // A depth of 0 means unowned, and the owner is then written 0.
-#[derive(Clone, Copy)]
+#[derive(Clone, Copy, Default)]
 pub struct Mutex {
     pub created: u8,
     pub owner: u8,
     pub depth: u8,
 }
 
-#[derive(Clone, Copy)]
+#[derive(Clone, Copy, Default)]
 pub struct Flags {
     pub created: u8,
     pub word: u16,
 }
 
 // A timer runs while its left is above 0. `count` is how often it expired.
-#[derive(Clone, Copy)]
+#[derive(Clone, Copy, Default, PartialEq)]
 pub struct Timer {
     pub period: u32,
     pub left: u32,
@@ -53,8 +53,8 @@ pub struct Timer {
     pub count: u32,
 }
 
-// The first `length` of `ids`, in order; the places behind them are 0.
-#[derive(Clone, Copy)]
+// The first `length` of `ids`, in order; the places behind them are 0. Memory is fixed, so it is no Vec.
+#[derive(Clone, Copy, Default)]
 pub struct IdList {
     pub length: u8,
     pub ids: [u8; 16],

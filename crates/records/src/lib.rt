@@ -10,14 +10,12 @@ use model::requests::Request;
 
 pub const RECORD_LENGTH: usize = 20;
 
-const FIRST_MARK: u8 = 0xAC;
+const MARK: [u8; 2] = [0xAC, 0xDC];
 
-const SECOND_MARK: u8 = 0xDC;
-
-#[derive(Clone, Copy)]
-pub enum Record {
-    Call(Request),
-    Bad(u64),
+// No record stands where one should begin: the offset of its first byte.
+#[derive(Clone, Copy, Debug, PartialEq, Eq)]
+pub struct BadRecord {
+    pub offset: u64,
 }
 
 fn request(bytes: &[u8]) -> Request
@@ -25,8 +23,8 @@ fn request(bytes: &[u8]) -> Request
     ensures { result ≡ request_of bytes.now }
 {
     Request {
-        call: packed::wide32(bytes[2]),
-        id: packed::wide32(bytes[3]),
+        call: u32::from(bytes[2]),
+        id: u32::from(bytes[3]),
         a: packed::u32_at(bytes, 4),
         b: packed::u32_at(bytes, 8),
         c: packed::u32_at(bytes, 12),
@@ -35,17 +33,11 @@ fn request(bytes: &[u8]) -> Request
 }
 
 // What stands first in `bytes`, which begin at `offset` of the file: the mark is compared before the record is taken apart.
-pub fn decode(bytes: &[u8], offset: u64) -> Record
+pub fn decode(bytes: &[u8], offset: u64) -> Result<Request, BadRecord>
     ensures { result ≡ record_at offset bytes.now }
 {
-    if bytes.len() < RECORD_LENGTH {
-        return Record::Bad(offset);
+    if bytes.len() < RECORD_LENGTH || !bytes.starts_with(&MARK) {
+        return Err(BadRecord { offset });
     }
-    if bytes[0] != FIRST_MARK {
-        return Record::Bad(offset);
-    }
-    if bytes[1] != SECOND_MARK {
-        return Record::Bad(offset);
-    }
-    Record::Call(request(bytes))
+    Ok(request(bytes))
 }

@@ -25,14 +25,14 @@ pub fn fill<R: Read>(reader: &mut R, block: &mut [u8]) -> Filled
             Ok(more) => count += more,
             Err(why) => {
                 return Filled {
-                    count: count,
+                    count,
                     failure: Some(why),
                 };
             }
         }
     }
     Filled {
-        count: count,
+        count,
         failure: None,
     }
 }

@@ -13,12 +13,6 @@ const ROOM: usize = 68880;
 
 const LAST_OFFSET: u64 = u64::MAX - BLOCK as u64;
 
-#[derive(Clone, Copy)]
-struct Replayed {
-    table: Table,
-    more: bool,
-}
-
 // Where a read failed, what was read of the next record is no short record.
 fn readable(filled: &input::Filled) -> usize
     ensures { result ≤ filled.now.count }
@@ -30,6 +24,7 @@ fn readable(filled: &input::Filled) -> usize
     }
 }
 
+// The table after a block, where more may follow.
 fn turn<R: Read>(
     reader: &mut R,
     name: &[u8],
@@ -38,7 +33,7 @@ fn turn<R: Read>(
     t: Table,
     rows: &mut [[u8; 16]; 8],
     offset: u64,
-) -> Replayed
+) -> Option<Table>
     requires { offset + 16380 < 18446744073709551616 }
 {
     let mut block = [0u8; BLOCK];
@@ -46,35 +41,28 @@ fn turn<R: Read>(
     let count = readable(&filled);
     let mut text = [0u8; ROOM];
     let done = blocks::replay_block(t, &mut *rows, &block[..count], offset, &mut text);
-    let table = done.table;
-    let length = done.length;
-    let mut more = false;
-    if let Err(why) = out.write_all(&text[..length]) {
+    if let Err(why) = out.write_all(&text[..done.length]) {
         messages::cannot_write(errors, &why);
-    } else if done.good {
-        if let Some(why) = filled.failure {
-            messages::cannot_read(errors, name, &why);
-        } else {
-            more = count == BLOCK;
-        }
+        return None;
     }
-    Replayed {
-        table: table,
-        more: more,
+    if done.bad.is_some() {
+        return None;
     }
+    if let Some(why) = filled.failure {
+        messages::cannot_read(errors, name, &why);
+        return None;
+    }
+    (count == BLOCK).then_some(done.table)
 }
 
 pub fn replay<R: Read>(reader: &mut R, name: &[u8], out: &mut impl Write, errors: &mut impl Write) {
     let mut table = entries::fresh();
     let mut rows = entries::fresh_rows();
-    let mut offset: u64 = 0;
-    while offset < LAST_OFFSET {
-        let done = turn(reader, name, out, errors, table, &mut rows, offset);
-        if !done.more {
+    for offset in (0..LAST_OFFSET).step_by(BLOCK) {
+        let Some(after) = turn(reader, name, out, errors, table, &mut rows, offset) else {
             return;
-        }
-        table = done.table;
-        offset += BLOCK as u64;
+        };
+        table = after;
     }
     messages::too_long(errors, name);
 }

@@ -1,12 +1,13 @@
 -- What one store, or one part of a row copied within it, does to the list that the row holds; and a row stored among rows. For any room.
 use mathlib.Core.Path.{◌≡◌, sym, ◌∙◌, ap}
 use mathlib.Core.List.{List, [], ◌∷◌, ◌++◌, append_assoc}
-use Prim.Native.Nat.{ℕ, zero, suc, ◌+◌, ◌-◌, ◌≤◌, ◌<◌}
+use Prim.Native.Nat.{ℕ, suc, ◌+◌, ◌-◌, ◌≤◌, ◌<◌}
 use native.Mathlib.Decide.{ℕ_discrete, dec_lt}
 use native.Mathlib.Numerals.{add-one}
 use native.Mathlib.Omega.{arith}
 use lib.ListN.{length, take, drop, set, get_or, length-set, length-append, length-replicate, length-drop, get_or-replicate, get_or-eq_default}
-use lib.Seq.{paste, length_paste_head, take-suc-set, drop-set-lt, drop-drop, drop-cons, set_at, take_at, drop_at, take-take, take-add, take-suc, length-take-le}
+use lib.Seq.{paste, length_paste_head, take-suc-set, drop-set-lt, drop-drop, drop-cons, set_at, take_at, drop_at, take-take, take-suc, length-take-le}
+use Rattle.std.proofs.lemmas.List.{drop-replicate, drop-take}
 use lib.Seq.{get_or-set_same, get_or-set_other, get_or-drop}
 use Rattle.sequences.specs.Lists.{insert_at, remove_at, snoc, take_each}
 use Rattle.sequences.proofs.Bounds.{all_zero-from}
@@ -17,14 +18,8 @@ use Rattle.rows.specs.Row.{Row, Held, Rows, Changed, blanks}
 same-blanks : (m n : ℕ) → m ≡ n → blanks m ≡ blanks n
 same-blanks m n e = ap blanks e
 
-drop-blanks : (m n : ℕ) → drop m (blanks n) ≡ blanks (n - m)
-drop-blanks zero n = same-blanks n (n - 0) (omega arith)
-drop-blanks (suc m) zero = same-blanks 0 (0 - suc m) (omega arith)
-drop-blanks (suc m) (suc n) = drop-blanks m n ∙ same-blanks (n - m) (suc n - suc m) (omega arith)
-
-drop-take : (k m n : ℕ) (l : List ℕ) → k + m ≡ n → k ≤ length l → drop k (take n l) ≡ take m (drop k l)
-drop-take k m n l e h =
-    ap (λ (j : ℕ). drop k (take j l)) (sym e) ∙ ap (drop k) (take-add k m l) ∙ drop_at (take k l) (take m (drop k l)) k (length-take-le k l h)
+part_taken : (k m n : ℕ) (l : List ℕ) → k + m ≡ n → drop k (take n l) ≡ take m (drop k l)
+part_taken k m n l e = ap (λ (j : ℕ). drop k (take j l)) (sym e) ∙ drop-take k m l
 
 -- a list and blanks behind it are a row that holds the list
 pub held : (places n : ℕ) (ids l : List ℕ) → ids ≡ l ++ blanks (places - n) → length l ≡ n → n ≤ places → Held places ids n l
@@ -64,7 +59,7 @@ module _ {places : ℕ} {ids : List ℕ} {n : ℕ} (w : Row places ids n) where
   clear-one =
       sym (drop-drop 1 n ids)
       ∙ ap (drop 1) w.clear
-      ∙ drop-blanks 1 (places - n)
+      ∙ drop-replicate 1 (places - n) 0
       ∙ same-blanks (places - n - 1) (places - (n + 1)) (omega arith)
 
   -- ---- push: a store behind the last
@@ -85,28 +80,28 @@ module _ {places : ℕ} {ids : List ℕ} {n : ℕ} (w : Row places ids n) where
 
   module _ (k : ℕ) (h : k < n) where
     kept : List ℕ
-    kept = take k ids ++ take (n - 1 - k) (drop (k + 1) ids)
+    kept = take k ids ++ take (n - (k + 1)) (drop (k + 1) ids)
 
     kept-length : length kept ≡ n - 1
     unfolding kept
     kept-length =
-        length_paste_head ids k (drop (k + 1) ids) (n - 1 - k) (omega arith) (rw length-drop (omega arith)) ∙ omega arith
+        length_paste_head ids k (drop (k + 1) ids) (n - (k + 1)) (omega arith) (rw length-drop (omega arith)) ∙ omega arith
 
     kept-list : kept ≡ remove_at k (take n ids)
     unfolding kept
     kept-list =
-        rw (remove_at_split, ← add-one k, take-take k n ids (omega arith), drop-take (k + 1) (n - 1 - k) n ids (omega arith) (omega arith))
+        rw (remove_at_split, ← add-one k, take-take k n ids (omega arith), part_taken (k + 1) (n - (k + 1)) n ids (omega arith))
 
-    whole : set (paste ids k (drop (k + 1) ids) (n - 1 - k)) (n - 1) 0 ≡ kept ++ blanks (places - (n - 1))
+    whole : set (paste ids k (drop (k + 1) ids) (n - (k + 1))) (n - 1) 0 ≡ kept ++ blanks (places - (n - 1))
     unfolding kept
     whole =
-        let at : k + (n - 1 - k) ≡ n - 1 = omega arith in
+        let at : k + (n - (k + 1)) ≡ n - 1 = omega arith in
         let next : suc (n - 1) ≡ n = omega arith in
         rw (at, drop-cons ids (n - 1) 0 (omega arith), next, w.clear)
         (set_at kept (get_or ids (n - 1) 0) (blanks (places - n)) 0 (n - 1) kept-length
         ∙ ap (λ (l : List ℕ). kept ++ l) (same-blanks (suc (places - n)) (places - (n - 1)) (omega arith)))
 
-    pub removed : Held places (set (paste ids k (drop (k + 1) ids) (n - 1 - k)) (n - 1) 0) (n - 1) (remove_at k (take n ids))
+    pub removed : Held places (set (paste ids k (drop (k + 1) ids) (n - (k + 1))) (n - 1) 0) (n - 1) (remove_at k (take n ids))
     removed = rw (← kept-list) (held places (n - 1) _ kept whole kept-length (omega arith))
 
   -- ---- insert: the part from k on copied one place on, and x at k
@@ -129,7 +124,7 @@ module _ {places : ℕ} {ids : List ℕ} {n : ℕ} (w : Row places ids n) where
     unfolding grown
     whole_in =
         let at : k + 1 + (n - k) ≡ n + 1 = omega arith in
-        rw (at, take-take k n ids i, drop-take k (n - k) n ids (omega arith) (omega arith), add-one k, take-suc ids k 0 (omega arith), clear-one)
+        rw (at, take-take k n ids i, part_taken k (n - k) n ids (omega arith), add-one k, take-suc ids k 0 (omega arith), clear-one)
         (simp append_assoc
         (set_at (take k ids) (get_or ids k 0) (take (n - k) (drop k ids) ++ blanks (places - (n + 1))) x k (length-take-le k ids (omega arith))))
 

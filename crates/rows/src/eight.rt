@@ -10,11 +10,8 @@ pub fn push(rows: [[u8; 16]; 8], lengths: [u8; 8], p: usize, x: u8) -> [[u8; 16]
     requires p_bound { (p < 8) × (get_or lengths p 0 < 16) }
     ensures { Changed 16 8 rows lengths p (get_or lengths p 0 + 1) (snoc x) result }
 {
-    let n = lengths[p] as usize;
-    let old = rows[p];
-    let grown = row::push(old, n, x);
     let mut all = rows;
-    all[p] = grown;
+    all[p] = row::push(rows[p], usize::from(lengths[p]), x);
     all
 }
 
@@ -23,11 +20,8 @@ pub fn remove(rows: [[u8; 16]; 8], lengths: [u8; 8], p: usize, k: usize) -> [[u8
     requires p_bound { (p < 8) × (k < get_or lengths p 0) }
     ensures { Changed 16 8 rows lengths p (get_or lengths p 0 - 1) (remove_at k) result }
 {
-    let n = lengths[p] as usize;
-    let old = rows[p];
-    let shrunk = row::remove(old, n, k);
     let mut all = rows;
-    all[p] = shrunk;
+    all[p] = row::remove(rows[p], usize::from(lengths[p]), k);
     all
 }
 
@@ -36,7 +30,5 @@ pub fn find(rows: [[u8; 16]; 8], lengths: [u8; 8], p: usize, x: u8) -> usize
     requires p_bound { p < 8 }
     ensures { result ≡ first_at (λ y. eqb y x) (get_or (take_each lengths rows) p []) }
 {
-    let n = lengths[p] as usize;
-    let old = rows[p];
-    row::find(old, n, x)
+    row::find(rows[p], usize::from(lengths[p]), x)
 }

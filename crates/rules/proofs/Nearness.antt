@@ -1,6 +1,6 @@
 -- The nearer of two counters of 32 bits is the one with the lesser place, and a counter is known by its place. By the cases of both, 0 or more.
 use mathlib.Core.Path.{◌≡◌, refl, ap}
-use Prim.Native.Nat.{ℕ, zero, suc, ◌-◌, ◌<◌, ◌≤◌, min}
+use Prim.Native.Nat.{ℕ, zero, suc, ◌-◌, ◌≤◌, min}
 use native.Mathlib.Omega.{arith}
 use borrow.Author.Tests.{ne_eqb}
 use Rattle.sequences.specs.Lists.{nearer}
@@ -13,17 +13,6 @@ running-place (suc a) runs = omega arith
 pub place_counter : (a : ℕ) → a ≤ never → counter_at (place a) ≡ a
 place_counter zero h = refl
 place_counter (suc a) h = rw (ne_eqb a never (λ e. omega arith)) (omega arith)
-
-pub nearer-first : (a b : ℕ) → a ≤ never → b ≤ never → place a < place b → a ≡ nearer a b
-nearer-first zero zero h k l = refl
-nearer-first zero (suc b) h k l = absurd (omega arith)
-nearer-first (suc a) zero h k l = refl
-nearer-first (suc a) (suc b) h k l = omega arith
-
-pub nearer-second : (a b : ℕ) → a ≤ never → b ≤ never → place b ≤ place a → b ≡ nearer a b
-nearer-second zero b h k l = refl
-nearer-second (suc a) zero h k l = absurd (omega arith)
-nearer-second (suc a) (suc b) h k l = omega arith
 
 pub nearer-fits : (a b : ℕ) → a ≤ never → b ≤ never → nearer a b ≤ never
 nearer-fits zero b h k = k

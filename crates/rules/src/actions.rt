@@ -2,18 +2,16 @@
 ghost use Rattle.std.specs.Prelude.{◌≡◌};
 ghost use Rattle.model.specs.Ranges.{action_in_range};
 
-use model::actions::{NOTHING, POST, SET_FLAGS};
+use crate::request_fields::is_positive_16;
+use model::actions::Action;
 
 pub fn action_in_range(kind: u32, object: u32, mask: u32) -> bool
     ensures { result ≡ action_in_range kind object mask }
 {
-    if kind == NOTHING {
-        (object == 0) & (mask == 0)
-    } else if kind == POST {
-        mask == 0
-    } else if kind == SET_FLAGS {
-        (0 < mask) & (mask <= 65535)
-    } else {
-        false
+    match Action::try_from(kind) {
+        Ok(Action::Nothing) => (object == 0) & (mask == 0),
+        Ok(Action::Post) => mask == 0,
+        Ok(Action::SetFlags) => is_positive_16(mask),
+        Err(_) => false,
     }
 }

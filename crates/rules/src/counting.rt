@@ -1,5 +1,5 @@
 // What counts down (01, One tick, on the next wake-up): the nearer of two counters, where one at 0 doesn't run. Many are compared by their places.
-ghost use Rattle.std.specs.Prelude.{◌≡◌, min};
+ghost use Rattle.std.specs.Prelude.{◌≡◌};
 ghost use Rattle.sequences.specs.Lists.{nearer};
 ghost use Rattle.rules.specs.Counting.{place, counter_at};
 
@@ -10,12 +10,6 @@ pub fn place(a: u32) -> u32
     ensures { result ≡ place a }
 {
     if a == 0 { NEVER } else { a - 1 }
-}
-
-pub fn earlier(p: u32, q: u32) -> u32
-    ensures { result ≡ min p q }
-{
-    if p < q { p } else { q }
 }
 
 pub fn counter_at(p: u32) -> u32

@@ -1,12 +1,12 @@
 // The order of the answers (01, Answers): a call marks what is due, and the lowest number is given.
-ghost use Rattle.std.specs.Prelude.{◌≡◌, false};
+ghost use Rattle.std.specs.Prelude.{◌≡◌};
 ghost use Rattle.model.specs.Answers.{first-due};
 ghost use Rattle.rules.specs.Due.{listed};
 
 use model::answers::Answer;
 
-// For the answers from 3 to 10 whether each is due.
-#[derive(Clone, Copy)]
+// For the answers from 3 to 10 whether each is due: several can be, so there is a mark for each.
+#[derive(Clone, Copy, Default)]
 pub struct Due {
     pub object: bool,
     pub number: bool,
@@ -18,47 +18,35 @@ pub struct Due {
     pub waits: bool,
 }
 
-pub fn nothing() -> Due
-    ensures { result ≡ record { object = false; number = false; exists = false; nobody = false; off = false; state = false; full = false; waits = false } }
-{
-    Due {
-        object: false,
-        number: false,
-        exists: false,
-        nobody: false,
-        off: false,
-        state: false,
-        full: false,
-        waits: false,
+impl Due {
+    // The answer that is given: the lowest number that is due, else done.
+    pub fn first(self) -> Answer
+        ensures { result ≡ first-due (listed self) }
+    {
+        if self.object {
+            return Answer::NoObject;
+        }
+        if self.number {
+            return Answer::BadNumber;
+        }
+        if self.exists {
+            return Answer::Exists;
+        }
+        if self.nobody {
+            return Answer::NobodyRuns;
+        }
+        if self.off {
+            return Answer::SchedulingOff;
+        }
+        if self.state {
+            return Answer::WrongState;
+        }
+        if self.full {
+            return Answer::Full;
+        }
+        if self.waits {
+            return Answer::Waits;
+        }
+        Answer::Done
     }
-}
-
-pub fn first(due: Due) -> Answer
-    ensures { result ≡ first-due (listed due) }
-{
-    if due.object {
-        return Answer::NoObject;
-    }
-    if due.number {
-        return Answer::BadNumber;
-    }
-    if due.exists {
-        return Answer::Exists;
-    }
-    if due.nobody {
-        return Answer::NobodyRuns;
-    }
-    if due.off {
-        return Answer::SchedulingOff;
-    }
-    if due.state {
-        return Answer::WrongState;
-    }
-    if due.full {
-        return Answer::Full;
-    }
-    if due.waits {
-        return Answer::Waits;
-    }
-    Answer::Done
 }

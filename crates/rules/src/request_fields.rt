@@ -3,6 +3,7 @@ ghost use Rattle.std.specs.Prelude.{◌≡◌, ◌&&◌, eqb, leb};
 ghost use Rattle.model.specs.Ranges.{is_positive_16, fits_32, is_positive_32};
 ghost use Rattle.model.specs.Calls.{unused_abcd, unused_bcd, unused_cd};
 
+use model::modes::Mode;
 use model::requests::Request;
 
 pub fn unused_cd(q: Request) -> bool
@@ -14,15 +15,13 @@ pub fn unused_cd(q: Request) -> bool
 pub fn unused_bcd(q: Request) -> bool
     ensures { result ≡ unused_bcd q }
 {
-    let rest = unused_cd(q);
-    (q.b == 0) & rest
+    (q.b == 0) & unused_cd(q)
 }
 
 pub fn unused_abcd(q: Request) -> bool
     ensures { result ≡ unused_abcd q }
 {
-    let rest = unused_bcd(q);
-    (q.a == 0) & rest
+    (q.a == 0) & unused_bcd(q)
 }
 
 // A limit or a span, which may be any number of 32 bits, and nothing else.
@@ -50,6 +49,5 @@ pub fn is_positive_32(x: u32) -> bool
 pub fn wait_fits(q: Request) -> bool
     ensures { result ≡ (is_positive_16 q.a && leb q.b 3 && fits_32 q.c && eqb q.d 0) }
 {
-    let mask = is_positive_16(q.a);
-    mask & (q.b <= 3) & (q.d == 0)
+    is_positive_16(q.a) & Mode::try_from(q.b).is_ok() & (q.d == 0)
 }

@@ -13,13 +13,9 @@ pub fn new_thread(priority: u8, quantum: u16) -> Thread
         created: 1,
         base: priority,
         current: priority,
-        quantum: quantum,
+        quantum,
         left: quantum,
-        limit: 0,
-        result: 0,
-        mask: 0,
-        mode: 0,
-        delivered: 0,
+        ..Thread::default()
     }
 }
 
@@ -27,16 +23,5 @@ pub fn new_thread(priority: u8, quantum: u16) -> Thread
 pub fn absent_thread() -> Thread
     ensures { result ≡ absent_thread }
 {
-    Thread {
-        created: 0,
-        base: 0,
-        current: 0,
-        quantum: 0,
-        left: 0,
-        limit: 0,
-        result: 0,
-        mask: 0,
-        mode: 0,
-        delivered: 0,
-    }
+    Thread::default()
 }

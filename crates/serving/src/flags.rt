@@ -3,14 +3,12 @@ ghost use Rattle.std.specs.Prelude.{◌<◌, ◌≤◌};
 ghost use Rattle.model.specs.Calls.{create_flags, wait, set, clear};
 ghost use Rattle.model.specs.Effects.{create_flags_effect, wait_effect, change_word, set_flags, set_effect, clear_effect};
 ghost use Rattle.model.specs.Layout.{view};
-ghost use Rattle.theorems.specs.Allowed.{Allowed, Accepted};
-ghost use Rattle.theorems.specs.Effect.{effect};
+ghost use Rattle.theorems.specs.Allowed.{Allowed};
 ghost use Rattle.theorems.specs.Meeting.{wake_met};
 ghost use Rattle.words.specs.Images.{Whole, On, Does};
 
-use fields::places::{LINKS, PRIORITY_COUNT};
+use fields::places::{Image, LINKS, PRIORITY_COUNT};
 use fields::{flags, head, threads};
-use model::calls::{CREATE_FLAGS, SET, WAIT};
 use model::lists::FLAGS_LIST;
 use model::requests::Request;
 use model::tables::Flags;
@@ -18,7 +16,7 @@ use rules::conditions;
 use words::{standing, waking};
 
 // Call 15.
-fn create_flags(image: &mut [u8], q: Request)
+pub fn create_flags(image: &mut Image, q: Request)
     requires whole { Whole image.old }
     requires allowed { Allowed create_flags q (view image.old) }
     ensures { Does image.old (create_flags_effect q) image.new }
@@ -31,7 +29,7 @@ fn create_flags(image: &mut [u8], q: Request)
 }
 
 // Call 16: where the condition holds the whole word is delivered, else the running thread waits.
-fn wait(image: &mut [u8], q: Request)
+pub fn wait(image: &mut Image, q: Request)
     requires whole { Whole image.old }
     requires allowed { Allowed wait q (view image.old) }
     ensures { Does image.old (wait_effect q) image.new }
@@ -50,7 +48,7 @@ fn wait(image: &mut [u8], q: Request)
 }
 
 // Thread i, which stands on list l, is delivered the word and woken, where its condition holds of it.
-fn wake_met(image: &mut [u8], l: usize, i: usize, word: u16)
+fn wake_met(image: &mut Image, l: usize, i: usize, word: u16)
     requires { On image.old l i }
     ensures { Does image.old (wake_met word i) image.new }
 {
@@ -63,7 +61,8 @@ fn wake_met(image: &mut [u8], l: usize, i: usize, word: u16)
 }
 
 // First the word changes, then those it concerns are woken as they stood in the list: the link to the next is read before one leaves.
-fn change_word(image: &mut [u8], o: usize, word: u16)
+// (A walk from link to link, which no range or iterator of std has.)
+fn change_word(image: &mut Image, o: usize, word: u16)
     requires whole { Whole image.old }
     requires o_bound { o < 4 }
     ensures { Does image.old (change_word o word) image.new }
@@ -78,7 +77,7 @@ fn change_word(image: &mut [u8], o: usize, word: u16)
     }
 }
 
-pub fn set_flags(image: &mut [u8], o: usize, mask: u16)
+pub fn set_flags(image: &mut Image, o: usize, mask: u16)
     requires whole { Whole image.old }
     requires o_bound { o < 4 }
     ensures { Does image.old (set_flags o mask) image.new }
@@ -88,7 +87,7 @@ pub fn set_flags(image: &mut [u8], o: usize, mask: u16)
 }
 
 // Call 17.
-fn set(image: &mut [u8], q: Request)
+pub fn set(image: &mut Image, q: Request)
     requires whole { Whole image.old }
     requires allowed { Allowed set q (view image.old) }
     ensures { Does image.old (set_effect q) image.new }
@@ -97,7 +96,7 @@ fn set(image: &mut [u8], q: Request)
 }
 
 // Call 18: the bits that word and mask share are taken away.
-fn clear(image: &mut [u8], q: Request)
+pub fn clear(image: &mut Image, q: Request)
     requires whole { Whole image.old }
     requires allowed { Allowed clear q (view image.old) }
     ensures { Does image.old (clear_effect q) image.new }
@@ -106,19 +105,4 @@ fn clear(image: &mut [u8], q: Request)
     let mask = q.a as u16;
     let word = flags::word(image, o);
     change_word(image, o, word - (word & mask));
-}
-
-pub fn effect(image: &mut [u8], q: Request)
-    requires whole { Whole image.old }
-    requires accepted { Accepted q (view image.old) }
-    requires le_call { (15 ≤ q.call) × (q.call < 19) }
-    ensures { Does image.old (effect q) image.new }
-{
-    let call = q.call;
-    match call {
-        CREATE_FLAGS => create_flags(image, q),
-        WAIT => wait(image, q),
-        SET => set(image, q),
-        _ => clear(image, q),
-    }
 }

@@ -5,13 +5,11 @@ ghost use Rattle.model.specs.Parts.{thread, list};
 ghost use Rattle.model.specs.Calls.{create_mutex, claim, release};
 ghost use Rattle.model.specs.Effects.{create_mutex_effect, raise, claim_effect, fall, hand_over, release_effect};
 ghost use Rattle.model.specs.Layout.{view};
-ghost use Rattle.theorems.specs.Allowed.{Allowed, Accepted};
-ghost use Rattle.theorems.specs.Effect.{effect};
+ghost use Rattle.theorems.specs.Allowed.{Allowed};
 ghost use Rattle.words.specs.Images.{Whole, Given, Does};
 
-use fields::places::PRIORITY_COUNT;
+use fields::places::{Image, PRIORITY_COUNT};
 use fields::{head, mutexes, threads};
-use model::calls::{CLAIM, CREATE_MUTEX};
 use model::lists::MUTEX_LIST;
 use model::requests::Request;
 use model::tables::Mutex;
@@ -19,7 +17,7 @@ use rules::owners;
 use words::{priorities, standing, waking};
 
 // Call 12.
-fn create_mutex(image: &mut [u8], q: Request)
+pub fn create_mutex(image: &mut Image, q: Request)
     requires whole { Whole image.old }
     requires allowed { Allowed create_mutex q (view image.old) }
     ensures { Does image.old (create_mutex_effect q) image.new }
@@ -33,7 +31,7 @@ fn create_mutex(image: &mut [u8], q: Request)
 }
 
 // The current priority of `from`, where it exceeds that of thread i, becomes that of thread i.
-fn raise(image: &mut [u8], i: usize, from: usize)
+fn raise(image: &mut Image, i: usize, from: usize)
     requires given { Given image.old i }
     requires from_bound { from < 16 }
     ensures { Does image.old (raise i from) image.new }
@@ -45,7 +43,7 @@ fn raise(image: &mut [u8], i: usize, from: usize)
 }
 
 // Call 13: another's mutex is waited for, and its owner raised; else it is the running thread's, once more if it was already.
-fn claim(image: &mut [u8], q: Request)
+pub fn claim(image: &mut Image, q: Request)
     requires whole { Whole image.old }
     requires allowed { Allowed claim q (view image.old) }
     ensures { Does image.old (claim_effect q) image.new }
@@ -64,7 +62,7 @@ fn claim(image: &mut [u8], q: Request)
 }
 
 // To its base priority.
-fn fall(image: &mut [u8], i: usize)
+fn fall(image: &mut Image, i: usize)
     requires given { Given image.old i }
     requires image_bound { (thread i (view image.old)).base < 8 }
     ensures { Does image.old (fall i) image.new }
@@ -74,7 +72,7 @@ fn fall(image: &mut [u8], i: usize)
 }
 
 // The first waiter owns it and is woken; with none it is unowned.
-fn hand_over(image: &mut [u8], o: usize)
+fn hand_over(image: &mut Image, o: usize)
     requires whole { Whole image.old }
     requires o_bound { o < 4 }
     ensures { Does image.old (λ s. hand_over o (list (mutex_list o) s) s) image.new }
@@ -94,7 +92,7 @@ fn hand_over(image: &mut [u8], o: usize)
 }
 
 // Call 14: with the last level first the fall, then the new owner.
-fn release(image: &mut [u8], q: Request)
+pub fn release(image: &mut Image, q: Request)
     requires whole { Whole image.old }
     requires allowed { Allowed release q (view image.old) }
     ensures { Does image.old (release_effect q) image.new }
@@ -108,19 +106,5 @@ fn release(image: &mut [u8], q: Request)
     } else {
         let owner = mutexes::owner(image, o);
         mutexes::set_owner(image, o, owner, depth - 1);
-    }
-}
-
-pub fn effect(image: &mut [u8], q: Request)
-    requires whole { Whole image.old }
-    requires accepted { Accepted q (view image.old) }
-    requires le_call { (12 ≤ q.call) × (q.call < 15) }
-    ensures { Does image.old (effect q) image.new }
-{
-    let call = q.call;
-    match call {
-        CREATE_MUTEX => create_mutex(image, q),
-        CLAIM => claim(image, q),
-        _ => release(image, q),
     }
 }

@@ -4,21 +4,19 @@ ghost use Rattle.model.specs.Parts.{alter_semaphore};
 ghost use Rattle.model.specs.Calls.{create_semaphore, pend, post};
 ghost use Rattle.model.specs.Effects.{create_semaphore_effect, pend_effect, one_more, post_semaphore, post_effect};
 ghost use Rattle.model.specs.Layout.{view};
-ghost use Rattle.fields.specs.Fields.{Named, Alters};
-ghost use Rattle.theorems.specs.Allowed.{Allowed, Accepted};
-ghost use Rattle.theorems.specs.Effect.{effect};
+ghost use Rattle.fields.specs.Fields.{Alters};
+ghost use Rattle.theorems.specs.Allowed.{Allowed};
 ghost use Rattle.words.specs.Images.{Whole, Does};
 
-use fields::places::PRIORITY_COUNT;
+use fields::places::{Image, PRIORITY_COUNT};
 use fields::{head, semaphores, threads};
-use model::calls::{CREATE_SEMAPHORE, PEND};
 use model::lists::SEMAPHORE_LIST;
 use model::requests::Request;
 use model::tables::Semaphore;
 use words::{standing, waking};
 
 // Call 9.
-fn create_semaphore(image: &mut [u8], q: Request)
+pub fn create_semaphore(image: &mut Image, q: Request)
     requires whole { Whole image.old }
     requires allowed { Allowed create_semaphore q (view image.old) }
     ensures { Does image.old (create_semaphore_effect q) image.new }
@@ -32,7 +30,7 @@ fn create_semaphore(image: &mut [u8], q: Request)
 }
 
 // Call 10: a count above 0 is taken, else the running thread waits.
-fn pend(image: &mut [u8], q: Request)
+pub fn pend(image: &mut Image, q: Request)
     requires whole { Whole image.old }
     requires allowed { Allowed pend q (view image.old) }
     ensures { Does image.old (pend_effect q) image.new }
@@ -49,8 +47,8 @@ fn pend(image: &mut [u8], q: Request)
 }
 
 // One more, as far as the maximum.
-fn count_up(image: &mut [u8], o: usize)
-    requires { Named 8 image.old o }
+fn count_up(image: &mut Image, o: usize)
+    requires { o < 8 }
     ensures { Alters image.old (alter_semaphore o one_more) image.new }
 {
     let count = semaphores::count(image, o);
@@ -60,7 +58,7 @@ fn count_up(image: &mut [u8], o: usize)
 }
 
 // The first waiter is woken; with none the count goes up.
-pub fn post_semaphore(image: &mut [u8], o: usize)
+pub fn post_semaphore(image: &mut Image, o: usize)
     requires whole { Whole image.old }
     requires o_bound { o < 8 }
     ensures { Does image.old (post_semaphore o) image.new }
@@ -79,24 +77,10 @@ pub fn post_semaphore(image: &mut [u8], o: usize)
 }
 
 // Call 11.
-fn post(image: &mut [u8], q: Request)
+pub fn post(image: &mut Image, q: Request)
     requires whole { Whole image.old }
     requires allowed { Allowed post q (view image.old) }
     ensures { Does image.old (post_effect q) image.new }
 {
     post_semaphore(image, q.id as usize);
-}
-
-pub fn effect(image: &mut [u8], q: Request)
-    requires whole { Whole image.old }
-    requires accepted { Accepted q (view image.old) }
-    requires le_call { (9 ≤ q.call) × (q.call < 12) }
-    ensures { Does image.old (effect q) image.new }
-{
-    let call = q.call;
-    match call {
-        CREATE_SEMAPHORE => create_semaphore(image, q),
-        PEND => pend(image, q),
-        _ => post(image, q),
-    }
 }

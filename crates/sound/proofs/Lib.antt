@@ -1,4 +1,3 @@
-pub mod Endings
 pub mod OneNumber
 pub mod Marks
 pub mod Places

@@ -7,40 +7,32 @@ ghost use Rattle.model.specs.Sound.{choice_fits};
 ghost use Rattle.model.specs.Layout.{view, links_part};
 ghost use Rattle.sound.specs.Asked.{Followed};
 
+use crate::Marks;
 use fields::head;
-use fields::places::{PRIORITY_COUNT, THREAD_COUNT};
+use fields::places::{Image, PRIORITY_COUNT, THREAD_COUNT};
 use model::tables::NOBODY;
 use words::choosing;
 
 // By its mark; a number that is no thread's isn't ready.
-fn is_ready(image: &[u8], marks: &[u8], i: u8) -> bool
+fn is_ready(image: &Image, marks: &Marks, i: u8) -> bool
     requires followed { Followed image.now marks.now }
     requires orderly { Orderly 16 26 (links_part image.now) }
     ensures { result ≡ is_ready i (view image.now) }
 {
-    let x = i as usize;
-    if x < THREAD_COUNT {
-        let mark = marks[x];
-        return (0 < mark) & (mark <= (PRIORITY_COUNT as u8));
-    }
-    false
+    let x = usize::from(i);
+    x < THREAD_COUNT && (1..=PRIORITY_COUNT).contains(&usize::from(marks[x]))
 }
 
-pub fn choice_fits(image: &[u8], marks: &[u8]) -> bool
+#[tactic(auto, unfolding(model::specs::Sound::choice_fits))]
+pub fn choice_fits(image: &Image, marks: &Marks) -> bool
     requires followed { Followed image.now marks.now }
     requires orderly { Orderly 16 26 (links_part image.now) }
     ensures { result ≡ (is_bit (view image.now).off && choice_fits (view image.now)) }
 {
     let chosen = head::chosen(image);
-    let off = head::off(image);
-    if off == 0 {
-        return chosen == choosing::choice(image);
+    match head::off(image) {
+        0 => chosen == choosing::choice(image),
+        1 => chosen == NOBODY || is_ready(image, marks, chosen),
+        _ => false,
     }
-    if 1 < off {
-        return false;
-    }
-    if chosen == NOBODY {
-        return true;
-    }
-    is_ready(image, marks, chosen)
 }

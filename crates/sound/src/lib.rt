@@ -6,28 +6,32 @@
 ghost use Rattle.std.specs.Prelude.{◌≡◌};
 ghost use Rattle.model.specs.Layout.{sound_image};
 
-use fields::places::{IMAGE_LENGTH, LINKED_LISTS, LINKS, THREAD_COUNT};
+use fields::places::{Image, LINKED_LISTS, LINKS, THREAD_COUNT};
+
+// For each thread its mark: 0, or one more than the number of the list that it is read on.
+type Marks = [u8; THREAD_COUNT];
 
 mod choice;
 mod objects;
 mod threads;
 mod timers;
 
+fn is_sound_image(image: &Image) -> bool
+    ensures { result ≡ sound_image image.now }
+{
+    let Some(marks) = links::noting::note::<THREAD_COUNT, LINKED_LISTS>(image, LINKS) else {
+        return false;
+    };
+    threads::threads_fit(image, &marks)
+        && choice::choice_fits(image, &marks)
+        && objects::objects_fit(image, &marks)
+}
+
 pub fn is_sound(image: &[u8]) -> bool
     ensures { result ≡ sound_image image.now }
 {
-    if image.len() != IMAGE_LENGTH {
-        return false;
+    match <&Image>::try_from(image) {
+        Ok(image) => is_sound_image(image),
+        Err(_) => false,
     }
-    let mut marks = [0u8; 16];
-    if !links::noting::note(image, LINKS, THREAD_COUNT, LINKED_LISTS, &mut marks) {
-        return false;
-    }
-    if !threads::threads_fit(image, &marks) {
-        return false;
-    }
-    if !choice::choice_fits(image, &marks) {
-        return false;
-    }
-    objects::objects_fit(image, &marks)
 }

@@ -1,27 +1,18 @@
 -- What a list asks, place by place: what has been found so far, and what the list asks from the place on, are together what it asks.
 use mathlib.Core.Path.{◌≡◌, refl}
-use mathlib.Core.Bool.{Bool, true, false, ◌&&◌, ◌||◌, and-true, and-false, or-true}
-use mathlib.Core.List.{List, [], map}
-use Prim.Native.Nat.{ℕ, zero, suc, ◌+◌, ◌<◌, ◌≤◌}
+use mathlib.Core.Bool.{Bool, true, false, ◌&&◌, ◌||◌, and-true, and-false}
+use mathlib.Core.List.{List, map}
+use Prim.Native.Nat.{ℕ, suc, ◌+◌, ◌<◌, ◌≤◌}
 use native.Mathlib.Numerals.{add-one}
 use native.Mathlib.Omega.{arith}
 use lib.Dec.{eqb, leb, ltb}
-use lib.ListN.{length, get_or, take, drop, length-map, get_or-map, drop_of_length-le}
+use lib.ListN.{length, get_or, drop, length-map, get_or-map, drop_of_length-le}
 use lib.Seq.{drop-cons}
 use Rattle.sequences.specs.Lists.{every}
 use Rattle.sequences.proofs.Bounds.{falls-behind, falls_step, falls-end}
 use Rattle.model.specs.declared.tables.Thread.{Thread}
 use Rattle.model.specs.Before.{thread_at}
 use Rattle.soundness.specs.Lists.{member_fits, list_asks, of_object}
-
--- a list of length 0 has nobody on it, and asks nothing
-pub nobody : (n : ℕ) (ids : List ℕ) → n ≤ 0 → take n ids ≡ []
-nobody zero ids h = refl
-nobody (suc n) ids h = absurd (omega arith)
-
-pub nobody-asked : (kind mark : ℕ) (threads : List Thread) {ids : List ℕ} → ids ≡ [] → list_asks kind mark threads ids ≡ true
-unfolding list_asks
-nobody-asked kind mark threads e = rw e (or-true (ltb kind of_object))
 
 one-before-rest : (a f e s z o r : Bool) → a && ((f && e) && (s || ((z || o) && r))) ≡ (a && (f && ((s || z) || o))) && (e && (s || r))
 one-before-rest false f e s z o r = refl

@@ -1,7 +1,7 @@
 -- The walk from list to list: what it has found is what the lists so far ask, and none of them takes a count up by more than its room, so
 -- that small counts stay small.
-use mathlib.Core.Path.{◌≡◌, refl, sym, ◌∙◌}
-use mathlib.Core.Bool.{Bool, true, ◌&&◌, and-true}
+use mathlib.Core.Path.{◌≡◌, refl, ◌∙◌}
+use mathlib.Core.Bool.{Bool, true, ◌&&◌}
 use mathlib.Core.List.{List, [], ◌∷◌, map}
 use Prim.Native.Nat.{ℕ, ◌+◌, ◌-◌, ◌*◌, ◌<◌, ◌≤◌}
 use native.Mathlib.Omega.{arith}
@@ -13,7 +13,7 @@ use Rattle.sequences.proofs.Slices.{take_grown}
 use Rattle.model.specs.declared.tables.IdList.{IdList}
 use Rattle.model.specs.Before.{ids_of, no_ids, list_at}
 use Rattle.soundness.specs.Lists.{CountsUpTo, Walked, wait_list_fits}
-use Rattle.soundness.proofs.Counting.{tallied-empty, tallied-most, tallied_more, waits_short}
+use Rattle.soundness.proofs.Counting.{tallied-most, tallied_more, waits_short}
 
 -- a walk over the first n of the lists, of which each asks `asks` of its place
 pub record Walking (counts : List ℕ) (asks : ℕ → Bool) (lists : List (List ℕ)) (n : ℕ) (found : Bool) (counts-after : List ℕ) : Type 0 where
@@ -43,14 +43,6 @@ module _ {counts : List ℕ} (asks : ℕ → Bool) (lists : List (List ℕ)) whe
               };
         }
 
-    -- a list with nobody on it isn't walked
-    pub walking_past : n < length lists → get_or lists n [] ≡ [] → asks n ≡ true → Walking counts asks lists (n + 1) f c
-    walking_past h e a =
-        let room : length (get_or lists n []) ≤ 16 = rw e (omega arith) in
-        let nothing : Walked c (asks n) (get_or lists n [] ∷ []) true c =
-        record { answer = sym a; tallied = rw e (tallied-empty c v.within.size) } in
-        rw (and-true f) at (walking_more h room nothing)
-
     pub walking_all : length lists ≡ n → Walked counts (every_below n asks) lists f c
     walking_all e = rw (take_all n lists (omega arith)) at v.walked
 
@@ -72,10 +64,3 @@ module _ (waits : List IdList) (size : length waits ≡ 18) (e : every_below 18 
   part-more asks {k = k} h v w =
       let room = waits_short waits size e (from + k) (omega arith) in
       walking_more asks (slice from to (map ids_of waits)) v (omega (arith, part_length)) (rw (part_at k h) room) (rw (part_at k h) w)
-
-  pub part_past : {counts : List ℕ} (asks : ℕ → Bool) {k : ℕ} {f : Bool} {c : List ℕ} → from + k < to
-      → Walking counts asks (slice from to (map ids_of waits)) k f c
-      → ids_of (list_at waits (from + k)) ≡ [] → asks k ≡ true
-      → Walking counts asks (slice from to (map ids_of waits)) (k + 1) f c
-  part_past asks {k = k} h v none a =
-      walking_past asks (slice from to (map ids_of waits)) v (omega (arith, part_length)) (part_at k h ∙ none) a

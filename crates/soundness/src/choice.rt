@@ -11,15 +11,7 @@ pub fn on_ready_list(lengths: [u8; 8], rows: [[u8; 16]; 8], i: u8) -> bool
     requires { Rows 16 8 rows lengths }
     ensures { result ≡ among_any i (take_each lengths rows) }
 {
-    let mut some = false;
-    let mut p: usize = 0;
-    while p < 8 {
-        let n = lengths[p] as usize;
-        let k = rows::eight::find(rows, lengths, p, i);
-        some = some | (k < n);
-        p += 1;
-    }
-    some
+    (0..8).any(|p| rows::eight::find(rows, lengths, p, i) < lengths[p] as usize)
 }
 
 pub fn choice_fits(t: Table, rows: [[u8; 16]; 8]) -> bool

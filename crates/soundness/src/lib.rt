@@ -9,7 +9,7 @@ ghost use Rattle.soundness.specs.Whole.{lists_fit, members_fit, threads_fit, rec
 
 use model::lists::{FLAGS_LIST, SEMAPHORE_LIST, SLEEP_LIST, STOPPED_LIST};
 use model::tables::Table;
-use walks::{OF_OBJECT, OF_SLEEP, OF_STOPPED};
+use walks::Members;
 
 mod choice;
 mod lists;
@@ -21,11 +21,9 @@ mod walks;
 fn lists_fit(t: Table, rows: [[u8; 16]; 8]) -> bool
     ensures { result ≡ lists_fit t rows }
 {
-    let lengths = t.lengths;
-    let waits = t.waits;
     let most = lists::MOST;
-    let ready = lists::ready_lists_fit(rows, lengths, &most);
-    let others = lists::wait_lists_fit(waits, &most);
+    let ready = lists::ready_lists_fit(rows, t.lengths, &most);
+    let others = lists::wait_lists_fit(t.waits, &most);
     ready & others
 }
 
@@ -36,13 +34,10 @@ fn threads_fit(t: Table, rows: [[u8; 16]; 8]) -> bool
     requires rows_value { lists_fit t rows ≡ true }
     ensures { result ≡ (members_fit (view t rows) && threads_fit (view t rows)) }
 {
-    let all = t.threads;
-    let waits = t.waits;
-    let flags = t.flags;
-    let lengths = t.lengths;
-    let mutexes = t.mutexes;
+    let all = &t.threads;
+    let waits = &t.waits;
     let mut counts = [0u16; 16];
-    let flagged = walks::walk_flags(&mut counts, waits, all, flags);
+    let flagged = walks::walk_flags(&mut counts, waits, all, t.flags);
     let on_flags = counts;
     let waiting = walks::walk_waits(
         &mut counts,
@@ -50,9 +45,16 @@ fn threads_fit(t: Table, rows: [[u8; 16]; 8]) -> bool
         SEMAPHORE_LIST,
         FLAGS_LIST,
         all,
-        OF_OBJECT,
+        Members::Object,
     );
-    let asleep = walks::walk_waits(&mut counts, waits, SLEEP_LIST, STOPPED_LIST, all, OF_SLEEP);
+    let asleep = walks::walk_waits(
+        &mut counts,
+        waits,
+        SLEEP_LIST,
+        STOPPED_LIST,
+        all,
+        Members::Sleep,
+    );
     let at_rest = counts;
     let parked = walks::walk_waits(
         &mut counts,
@@ -60,10 +62,10 @@ fn threads_fit(t: Table, rows: [[u8; 16]; 8]) -> bool
         STOPPED_LIST,
         SEMAPHORE_LIST,
         all,
-        OF_STOPPED,
+        Members::Stopped,
     );
-    let ready = walks::walk_ready(&mut counts, rows, lengths, all);
-    let fits = threads::threads_fit(all, mutexes, counts, at_rest, on_flags);
+    let ready = walks::walk_ready(&mut counts, rows, t.lengths, all);
+    let fits = threads::threads_fit(t.threads, t.mutexes, counts, at_rest, on_flags);
     flagged & waiting & asleep & parked & ready & fits
 }
 
@@ -72,16 +74,10 @@ fn records_fit(t: Table, rows: [[u8; 16]; 8]) -> bool
     requires rows_value { lists_fit t rows ≡ true }
     ensures { result ≡ records_fit (view t rows) }
 {
-    let waits = t.waits;
-    let semaphores = t.semaphores;
-    let mutexes = t.mutexes;
-    let flags = t.flags;
-    let timers = t.timers;
-    let all = t.threads;
-    let a = objects::semaphores_fit(semaphores, waits);
-    let b = objects::mutexes_fit(mutexes, all, waits);
-    let c = objects::all_flags_fit(flags, waits);
-    let d = timers::timers_fit(timers, semaphores, flags);
+    let a = objects::semaphores_fit(t.semaphores, t.waits);
+    let b = objects::mutexes_fit(t.mutexes, t.threads, t.waits);
+    let c = objects::all_flags_fit(t.flags, t.waits);
+    let d = timers::timers_fit(t.timers, t.semaphores, t.flags);
     (t.off <= 1) & a & b & c & d
 }
 

@@ -14,7 +14,8 @@ pub const MOST: [u8; 32] = [
     0, 0, 0, 0, 0, 0,
 ];
 
-// A place before the end holds a thread's id, and one past it 0.
+// A place before the end holds a thread's id, and one past it 0. A fold, since `all` stops at the first that fails: with it all of soundness takes
+// twice as long.
 pub fn list_fits(ids: [u8; 16], n: usize, most: &[u8; 32]) -> bool
     requires { most.now ≡ tops }
     ensures { result ≡ list_fits n ids }
@@ -23,44 +24,21 @@ pub fn list_fits(ids: [u8; 16], n: usize, most: &[u8; 32]) -> bool
         return false;
     }
     let first = 16 - n;
-    let mut fits = true;
-    let mut k: usize = 0;
-    while k < 16 {
-        fits = fits & (ids[k] <= most[first + k]);
-        k += 1;
-    }
-    fits
+    (0..16).fold(true, |fits, k| fits & (ids[k] <= most[first + k]))
 }
 
 pub fn ready_lists_fit(rows: [[u8; 16]; 8], lengths: [u8; 8], most: &[u8; 32]) -> bool
     requires { most.now ≡ tops }
     ensures { result ≡ every_below 8 (λ p. list_fits (get_or lengths p 0) (get_or rows p [])) }
 {
-    let mut p: usize = 0;
-    while p < 8 {
-        let n = lengths[p] as usize;
-        let row = rows[p];
-        if !list_fits(row, n, most) {
-            return false;
-        }
-        p += 1;
-    }
-    true
+    (0..8).all(|p| list_fits(rows[p], lengths[p] as usize, most))
 }
 
 pub fn wait_lists_fit(waits: [IdList; 18], most: &[u8; 32]) -> bool
     requires { most.now ≡ tops }
     ensures { result ≡ every_below 18 (λ j. wait_list_fits (list_at waits j)) }
 {
-    let mut j: usize = 0;
-    while j < LIST_COUNT {
-        let l = waits[j];
-        let ids = l.ids;
-        let n = l.length as usize;
-        if !list_fits(ids, n, most) {
-            return false;
-        }
-        j += 1;
-    }
-    true
+    waits
+        .iter()
+        .all(|l| list_fits(l.ids, l.length as usize, most))
 }

@@ -7,28 +7,23 @@ ghost use Rattle.table.specs.Owners.{owns_one_of};
 ghost use Rattle.model.specs.Before.{thread_at};
 ghost use Rattle.soundness.specs.Records.{thread_fits};
 
-use model::modes::ALL_CLEAR;
+use model::modes::Mode;
 use model::tables::{Mutex, Thread};
 
 fn thread_in_range(t: Thread) -> bool
     ensures { result ≡ thread_in_range t }
 {
-    (t.created <= 1) & (t.base < 8) & (t.current < 8) & (t.result <= 2) & (t.mode <= ALL_CLEAR)
+    (t.created <= 1)
+        & (t.base < 8)
+        & (t.current < 8)
+        & (t.result <= 2)
+        & (t.mode <= Mode::AllClear as u8)
 }
 
 fn zero_thread(t: Thread) -> bool
     ensures { result ≡ zero_thread t }
 {
-    (t.created == 0)
-        & (t.base == 0)
-        & (t.current == 0)
-        & (t.quantum == 0)
-        & (t.left == 0)
-        & (t.limit == 0)
-        & (t.result == 0)
-        & (t.mask == 0)
-        & (t.mode == 0)
-        & (t.delivered == 0)
+    t == Thread::default()
 }
 
 // Nothing is left of a thread that isn't there; the record of one that is there isn't gone over for it.
@@ -73,14 +68,9 @@ pub fn threads_fit(
 ) -> bool
     ensures { result ≡ every_below 16 (λ i. thread_fits (thread_at threads i) (get_or standing i 0) (get_or resting i 0) (get_or flagged i 0) (owns_one_of mutexes i)) }
 {
-    let mut i: usize = 0;
-    while i < 16 {
+    (0..16).all(|i| {
         let t = threads[i];
         let owner = may_exceed(t, mutexes, i as u8);
-        if !thread_fits(t, standing[i], resting[i], flagged[i], owner) {
-            return false;
-        }
-        i += 1;
-    }
-    true
+        thread_fits(t, standing[i], resting[i], flagged[i], owner)
+    })
 }

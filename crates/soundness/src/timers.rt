@@ -11,13 +11,7 @@ use model::tables::{Flags, Semaphore, Timer};
 fn zero_timer(t: Timer) -> bool
     ensures { result ≡ zero_timer t }
 {
-    (t.period == 0)
-        & (t.left == 0)
-        & (t.repeat == 0)
-        & (t.kind == 0)
-        & (t.object == 0)
-        & (t.mask == 0)
-        & (t.count == 0)
+    t == Timer::default()
 }
 
 pub fn timer_fits(t: Timer, named: bool) -> bool
@@ -31,14 +25,8 @@ pub fn timer_fits(t: Timer, named: bool) -> bool
 pub fn timers_fit(timers: [Timer; 8], semaphores: [Semaphore; 8], flags: [Flags; 4]) -> bool
     ensures { result ≡ every_below 8 (λ o. timer_fits (get_or timers o unused_timer) (names_one_of semaphores flags (get_or timers o unused_timer).kind (get_or timers o unused_timer).object)) }
 {
-    let mut fits = true;
-    let mut o: usize = 0;
-    while o < 8 {
-        let t = timers[o];
+    timers.iter().all(|t| {
         let named = table::objects::names_object(semaphores, flags, t.kind as u32, t.object as u32);
-        let one = timer_fits(t, named);
-        fits = fits & one;
-        o += 1;
-    }
-    fits
+        timer_fits(*t, named)
+    })
 }

@@ -1,3 +1,4 @@
+pub mod Passing
 pub mod Views
 pub mod Rewriting
 pub mod StoredLists

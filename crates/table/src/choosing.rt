@@ -13,14 +13,10 @@ pub fn choice(lengths: [u8; 8], rows: [[u8; 16]; 8]) -> u8
     requires { Rows 16 8 rows lengths }
     ensures { result ≡ head_or (last_nonempty (take_each lengths rows)) nobody }
 {
-    let mut above: usize = 8;
-    while 0 < above {
-        let p = above - 1;
+    for p in (0..8).rev() {
         if 0 < lengths[p] {
-            let row = rows[p];
-            return row[0];
+            return rows[p][0];
         }
-        above = p;
     }
     NOBODY
 }

@@ -44,16 +44,10 @@ fn place_below(ids: [u8; 16], n: usize, threads: [Thread; 16], p: u8) -> usize
     requires by_index { (k : ℕ) → k < n → get_or ids k 0 < 16 }
     ensures { result ≡ first_at (λ x. ltb (thread_at threads x).current p) (take n ids) }
 {
-    let mut k: usize = 0;
-    while k < n {
-        let i = ids[k] as usize;
-        let x = threads[i];
-        if x.current < p {
-            return k;
-        }
-        k += 1;
-    }
-    k
+    ids[..n]
+        .iter()
+        .position(|i| threads[*i as usize].current < p)
+        .unwrap_or(n)
 }
 
 // Past everyone with the same current priority or a higher one (01, Calls, on entering a wait list).

@@ -9,54 +9,31 @@ use model::tables::{Flags, IdList, Mutex, NOBODY, Semaphore, Table, Timer};
 fn unused_timer() -> Timer
     ensures { result ≡ unused_timer }
 {
-    Timer {
-        period: 0,
-        left: 0,
-        repeat: 0,
-        kind: 0,
-        object: 0,
-        mask: 0,
-        count: 0,
-    }
+    Timer::default()
 }
 
 pub fn absent_semaphore() -> Semaphore
     ensures { result ≡ absent_semaphore }
 {
-    Semaphore {
-        created: 0,
-        count: 0,
-        maximum: 0,
-    }
+    Semaphore::default()
 }
 
 pub fn absent_mutex() -> Mutex
     ensures { result ≡ absent_mutex }
 {
-    Mutex {
-        created: 0,
-        owner: 0,
-        depth: 0,
-    }
+    Mutex::default()
 }
 
 pub fn absent_flags() -> Flags
     ensures { result ≡ absent_flags }
 {
-    Flags {
-        created: 0,
-        word: 0,
-    }
+    Flags::default()
 }
 
 fn empty_list() -> IdList
     ensures { result ≡ laid_list [] }
 {
-    let ids = [0u8; 16];
-    IdList {
-        length: 0,
-        ids: ids,
-    }
+    IdList::default()
 }
 
 pub fn fresh() -> Table

@@ -1,4 +1,5 @@
-// One stored list of ids: who stands on it, and the list with one more or one less.
+// One stored list of ids: who stands on it, and the list with one more or one less. A table that isn't sound has lists of any bytes, and
+// soundness speaks of those too: so that a list is in order is asked here, and is no invariant of the type, which belongs to model.
 ghost use Rattle.std.specs.Prelude.{◌≡◌, ◌<◌, ◌≤◌, length};
 ghost use Rattle.sequences.specs.Lists.{snoc, insert_at, without, among, count};
 ghost use Rattle.rows.specs.Row.{Row};

@@ -7,13 +7,5 @@ use model::tables::Mutex;
 pub fn owns_one_of(mutexes: [Mutex; 4], i: u8) -> bool
     ensures { result ≡ owns_one_of mutexes i }
 {
-    let mut some = false;
-    let mut o: usize = 0;
-    while o < 4 {
-        let x = mutexes[o];
-        let one = rules::owners::owns(x, i);
-        some = some | one;
-        o += 1;
-    }
-    some
+    mutexes.iter().any(|x| rules::owners::owns(*x, i))
 }

@@ -26,15 +26,10 @@ fn first_with(waits: [IdList; 18], i: u8) -> usize
     requires { (j : ℕ) → j < 18 → Row 16 (get_or waits j no_ids).ids (get_or waits j no_ids).length }
     ensures { result ≡ first_at (among i) (map ids_of waits) }
 {
-    let mut j: usize = 0;
-    while j < LIST_COUNT {
-        let l = waits[j];
-        if lists::holds_id(l, i) {
-            return j;
-        }
-        j += 1;
-    }
-    j
+    waits
+        .iter()
+        .position(|l| lists::holds_id(*l, i))
+        .unwrap_or(LIST_COUNT)
 }
 
 // The number of the list that it stands on, where that is no ready list; 18 where there is none.

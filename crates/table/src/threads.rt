@@ -1,4 +1,4 @@
-// A thread's record read, and written with all else as it was.
+// A thread's record read, and written with all else as it was: each change is the model's of the same name, and has a function of its own.
 ghost use Rattle.std.specs.Prelude.{◌≡◌, ◌<◌};
 ghost use Rattle.model.specs.Parts.{alter_thread, with_base, with_current, with_quantum, with_left, with_wait, with_result, with_delivered};
 ghost use Rattle.model.specs.Before.{thread_at};
@@ -10,19 +10,16 @@ pub fn thread(t: Table, i: u8) -> Thread
     requires { i < 16 }
     ensures { result ≡ thread_at t.threads i }
 {
-    let k = i as usize;
-    t.threads[k]
+    t.threads[i as usize]
 }
 
-pub fn with_thread(t: Table, i: u8, x: Thread) -> Table
+pub fn with_thread(mut t: Table, i: u8, x: Thread) -> Table
     requires orderly_table { OrderlyTable t }
     requires i_bound { i < 16 }
     ensures { Meets t (alter_thread i (λ _. x)) result }
 {
-    let k = i as usize;
-    let mut u = t;
-    u.threads[k] = x;
-    u
+    t.threads[i as usize] = x;
+    t
 }
 
 // What a wait, its end and a call that needn't wait write.

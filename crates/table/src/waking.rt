@@ -1,4 +1,4 @@
-// Ready, waiting, asleep, awake (01, Calls, the rules under the table).
+// Ready, waiting, asleep, awake (01, Calls, the rules under the table). Limit, mask and mode are handed on one by one, as the model's words take them.
 ghost use Rattle.std.specs.Prelude.{◌<◌};
 ghost use Rattle.model.specs.Words.{become_ready, suspend, start_to_wait, start_to_sleep, wake};
 ghost use Rattle.table.specs.Orderly.{Given, Does};

@@ -1,2 +1,1 @@
 pub mod Armed
-pub mod Within

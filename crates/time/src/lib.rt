@@ -9,7 +9,6 @@ ghost use Rattle.model.specs.Before.{view, sound_table, laid};
 ghost use Rattle.table.specs.Orderly.{Whole, Does};
 ghost use Rattle.theorems.specs.Leap.{leap};
 ghost use Rattle.time.specs.Armed.{Armed};
-ghost use Rattle.time.specs.Within.{Within};
 
 use kernel::next;
 use model::answers::{Answer, Reply};
@@ -18,7 +17,6 @@ use model::tables::Table;
 use rules::{counting, numbers};
 use table::{choosing, storing};
 
-mod counters;
 mod limits;
 mod quantum;
 mod rounds;
@@ -41,21 +39,14 @@ fn leap(t: Table, rows: &mut [[u8; 16]; 8], gap: &mut u32) -> Table
     ensures gap_after { gap.new ≡ next (view result rows.new) }
 {
     let by = *gap;
-    let second = quantum::quantum_leap(t, &mut *rows, by);
-    let third = timers::leap_timers(second, &mut *rows, by, &mut *gap);
-    let fourth = limits::leap_limits(third, &mut *rows, by, &mut *gap);
+    let second = quantum::quantum_leap(t, rows, by);
+    let third = timers::leap_timers(second, rows, by, gap);
+    let fourth = limits::leap_limits(third, rows, by, gap);
     let all = *rows;
     let fifth = choosing::choose(fourth, all);
     let left = next::quantum_left(fifth) as u32;
     *gap = counting::nearer(left, *gap);
     fifth
-}
-
-// Whether a wake-up that is `gap` ticks on, or never comes where that is 0, is one of the next `left` ticks.
-fn within(gap: u32, left: u32) -> bool
-    ensures { Within gap left result }
-{
-    (0 < gap) & (gap <= left)
 }
 
 // n ticks at once.
@@ -68,13 +59,13 @@ fn pass(t: Table, rows: &mut [[u8; 16]; 8], n: u32) -> Passed
     let mut left = n;
     let mut woken: u32 = 0;
     let mut gap = next::next_wake_up(t);
-    while within(gap, left) {
-        left = left - gap;
-        woken = woken + 1;
-        u = leap(u, &mut *rows, &mut gap);
+    while 0 < gap && gap <= left {
+        left -= gap;
+        woken += 1;
+        u = leap(u, rows, &mut gap);
     }
     let quiet = skips::skip(u, left);
-    let clock = std::num::wrapping_add_u32(t.clock, n);
+    let clock = t.clock.wrapping_add(n);
     let moved = storing::with_clock(quiet, clock);
     Passed {
         table: moved,
@@ -99,7 +90,7 @@ pub fn timed(t: Table, rows: &mut [[u8; 16]; 8], q: Request) -> Reply
     let before = *rows;
     let answer = refusals::answer(t, before, q);
     let n = span(q, answer);
-    let p = pass(t, &mut *rows, n);
+    let p = pass(t, rows, n);
     let u = p.table;
     let next = next::next_wake_up(u);
     kernel::reply(u, answer, p.wakeups, next)

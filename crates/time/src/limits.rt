@@ -6,7 +6,6 @@ ghost use Rattle.model.specs.declared.tables.Thread.{Thread};
 ghost use Rattle.table.specs.Orderly.{Whole, Given, Does};
 ghost use Rattle.theorems.specs.Leap.{run_out, limit_leap};
 
-use crate::counters;
 use model::lists::SLEEP_LIST;
 use model::tables::Table;
 use rules::counting;
@@ -19,9 +18,9 @@ fn run_out(t: Table, rows: &mut [[u8; 16]; 8], i: u8) -> Table
 {
     let sleepers = t.waits[SLEEP_LIST];
     if lists::holds_id(sleepers, i) {
-        waking::wake(t, &mut *rows, i, 1)
+        waking::wake(t, rows, i, 1)
     } else {
-        waking::wake(t, &mut *rows, i, 2)
+        waking::wake(t, rows, i, 2)
     }
 }
 
@@ -33,21 +32,17 @@ pub fn leap_limits(t: Table, rows: &mut [[u8; 16]; 8], gap: u32, soonest: &mut u
     ensures soonest_after { soonest.new ≡ nearer soonest.old (nearest (map (λ (x : Thread). x.limit) result.threads)) }
 {
     let mut u = t;
-    let mut least = *soonest;
-    let mut i: u8 = 0;
-    while i < 16 {
+    for i in 0..16 {
         let k = i as usize;
         let mut x = u.threads[k];
         if x.limit == gap {
-            u = run_out(u, &mut *rows, i);
+            u = run_out(u, rows, i);
             x = u.threads[k];
         } else {
-            x.limit = counters::less(x.limit, gap);
+            x.limit = x.limit.saturating_sub(gap);
             u.threads[k] = x;
         }
-        least = counting::nearer(least, x.limit);
-        i += 1;
+        *soonest = counting::nearer(*soonest, x.limit);
     }
-    *soonest = least;
     u
 }

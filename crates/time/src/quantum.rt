@@ -4,7 +4,7 @@ ghost use Rattle.model.specs.Before.{Rows};
 ghost use Rattle.table.specs.Orderly.{Whole, Does};
 ghost use Rattle.theorems.specs.Leap.{spend, quantum_leap};
 
-use crate::{counters, rounds};
+use crate::rounds;
 use kernel::next;
 use model::tables::Table;
 use table::{threads, waking};
@@ -18,7 +18,7 @@ pub fn spend(t: Table, m: u32) -> Table
     if left == 0 {
         t
     } else {
-        let rest = counters::less(left as u32, m);
+        let rest = u32::from(left).saturating_sub(m);
         threads::with_left(t, t.chosen, rest as u16)
     }
 }
@@ -43,12 +43,12 @@ pub fn quantum_leap(t: Table, rows: &mut [[u8; 16]; 8], gap: u32) -> Table
             let old = *rows;
             let k = rows::eight::find(old, lengths, p, c);
             if k < (lengths[p] as usize) {
-                rounds::turn_over(&mut *rows, lengths, p, k, c);
+                rounds::turn_over(rows, lengths, p, k, c);
             } else {
-                u = waking::become_ready(u, &mut *rows, c);
+                u = waking::become_ready(u, rows, c);
             }
         } else {
-            x.left = counters::less(left, gap) as u16;
+            x.left = left.saturating_sub(gap) as u16;
             u.threads[i] = x;
         }
     }

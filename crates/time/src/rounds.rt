@@ -12,7 +12,7 @@ pub fn turn_over(rows: &mut [[u8; 16]; 8], lengths: [u8; 8], p: usize, k: usize,
     let old = *rows;
     let shrunk = rows::eight::remove(old, lengths, p, k);
     let mut less = lengths;
-    less[p] = less[p] - 1;
+    less[p] -= 1;
     let grown = rows::eight::push(shrunk, less, p, i);
     *rows = grown;
 }

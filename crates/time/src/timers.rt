@@ -9,9 +9,8 @@ ghost use Rattle.table.specs.Orderly.{Whole, Does};
 ghost use Rattle.theorems.specs.Leap.{timer_leap};
 ghost use Rattle.time.specs.Armed.{Aimed, Armed};
 
-use crate::counters;
 use kernel::{flags, semaphores};
-use model::actions::{NOTHING, POST};
+use model::actions::Action;
 use model::tables::{Table, Timer};
 use rules::counting;
 
@@ -25,22 +24,21 @@ fn expired(x: Timer) -> Timer
     } else {
         y.left = 0;
     }
-    y.count = std::num::wrapping_add_u32(x.count, 1);
+    y.count = x.count.wrapping_add(1);
     y
 }
 
-// What a timer that has an action does when it runs out: calls 11 and 17 go by the same words.
+// What a timer does when it runs out: calls 11 and 17 go by the same words. Every number from 2 on sets flags, as the definition has it.
 fn act(t: Table, rows: &mut [[u8; 16]; 8], x: Timer) -> Table
     requires whole { Whole t rows.old }
-    requires aimed { Aimed x × (0 < x.kind) }
+    requires aimed { Aimed x }
     ensures { Does t rows.old (act x.kind x.object x.mask) result rows.new }
 {
-    let kind = x.kind as u32;
     let o = x.object as usize;
-    if kind == POST {
-        semaphores::post_semaphore(t, &mut *rows, o)
-    } else {
-        flags::set_flags(t, &mut *rows, o, x.mask)
+    match Action::try_from(x.kind) {
+        Ok(Action::Nothing) => t,
+        Ok(Action::Post) => semaphores::post_semaphore(t, rows, o),
+        Ok(Action::SetFlags) | Err(_) => flags::set_flags(t, rows, o, x.mask),
     }
 }
 
@@ -52,24 +50,22 @@ pub fn leap_timers(t: Table, rows: &mut [[u8; 16]; 8], gap: u32, soonest: &mut u
     ensures soonest_after { soonest.new ≡ nearest (map (λ (x : Timer). x.left) result.timers) }
 {
     let mut u = t;
-    let mut least: u32 = 0;
-    let mut o: usize = 0;
-    while o < 8 {
+    *soonest = 0;
+    for o in 0..8 {
         let mut x = u.timers[o];
         if x.left == gap {
             let y = expired(x);
             u.timers[o] = y;
-            if (x.kind as u32) != NOTHING {
-                u = act(u, &mut *rows, x);
+            // Without the test each timer that only counts would cost a copy of the table.
+            if x.kind != Action::Nothing as u8 {
+                u = act(u, rows, x);
             }
             x = y;
         } else {
-            x.left = counters::less(x.left, gap);
+            x.left = x.left.saturating_sub(gap);
             u.timers[o] = x;
         }
-        least = counting::nearer(least, x.left);
-        o += 1;
+        *soonest = counting::nearer(*soonest, x.left);
     }
-    *soonest = least;
     u
 }

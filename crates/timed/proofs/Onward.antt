@@ -12,7 +12,6 @@ use Rattle.sequences.proofs.InOrder.{in_order-holds}
 use Rattle.sequences.proofs.Parts.{place_below}
 use Rattle.sequences.proofs.Places.{alter_other, alter-holds}
 use Rattle.sequences.proofs.Removal.{map-without-none}
-use Rattle.sequences.proofs.Tests.{left}
 use Rattle.model.specs.declared.tables.Thread.{Thread}
 use Rattle.model.specs.declared.tables.Timer.{Timer}
 use Rattle.model.specs.State.{State, scheduling_on, nobody, absent_thread, unused_timer, thread_count, timer_count, semaphore_list, flags_list}

@@ -44,8 +44,8 @@ pub record Passing (s : State) (n : ℕ) (b : List ℕ) (left woken debt due qua
   pub timers : TimersTo stop (view b)
   pub limits : LimitsFrom from end (view b)
 
-pub passing_start : (b : List ℕ) → sound_image b ≡ true → {n due quantum stop end : ℕ} → n ≤ never → Foreseen (view b) due quantum
-    → TimersTo stop (view b) → LimitsFrom 0 end (view b) → Passing (view b) n b n 0 0 due quantum stop 0 end
+pub passing_start : (b : List ℕ) → sound_image b ≡ true → {n due quantum stop from end : ℕ} → n ≤ never → Foreseen (view b) due quantum
+    → TimersTo stop (view b) → LimitsFrom from end (view b) → Passing (view b) n b n 0 0 due quantum stop from end
 passing_start b e {n} most ahead timers limits =
     let v = view b in
     record {

@@ -10,7 +10,7 @@ use Rattle.model.specs.declared.tables.Timer.{Timer}
 use Rattle.model.specs.State.{State, absent_thread, unused_timer, timer_count, thread_count}
 use Rattle.model.specs.Parts.{thread, with_threads, with_timers, with_limit, with_time, refilled}
 use Rattle.model.specs.Sound.{sound}
-use Rattle.model.specs.Words.{leave, enter_ready, become_ready, settle, choice, choose}
+use Rattle.model.specs.Words.{leave, enter_ready, become_ready, settle, choose}
 use Rattle.model.specs.Tick.{quantum_counts}
 use Rattle.rules.specs.Counting.{never}
 use Rattle.theorems.specs.Leap.{quantum_leap, timer_leap, limit_leap}

@@ -20,7 +20,6 @@ use Rattle.placed.proofs.Standing.{alter-placed, standing_below}
 use Rattle.placed.proofs.Leaving.{leave-from-ready}
 use Rattle.placed.proofs.Entering.{become_ready-placed}
 use Rattle.theorems.proofs.LeapPlaced.{chosen_below}
-use Rattle.fields.specs.Fields.{Named}
 use Rattle.words.specs.Images.{Whole}
 use Rattle.words.proofs.Firsts.{head_linked, one-first, linked_long}
 use Rattle.timed.specs.Counters.{running}
@@ -107,8 +106,8 @@ module _ (u : State) (d : ℕ) (on : scheduling_on u ≡ true) where
 -- ---- in a table
 
 -- who has a quantum is a thread
-pub chosen-named : {b : List ℕ} → Whole b → quantum_counts (view b) ≡ true → {i : ℕ} → i ≡ (view b).chosen → Named 16 b i
-chosen-named {b} w counts e = record { size = w.size; there = omega (arith, e, chosen_below (view b) w.placed counts) }
+pub chosen-named : {b : List ℕ} → Whole b → quantum_counts (view b) ≡ true → {i : ℕ} → i ≡ (view b).chosen → i < 16
+chosen-named {b} w counts e = omega (arith, e, chosen_below (view b) w.placed counts)
 
 module _ {s : State} (w : Placed s) (counts : quantum_counts s ≡ true) (first : choice s ≡ s.chosen) where
   abbrev c : ℕ

@@ -6,3 +6,4 @@ pub mod Owed
 pub mod Running
 pub mod Turns
 pub mod Unmoved
+pub mod Within

@@ -8,24 +8,24 @@ ghost use Rattle.model.specs.Words.{choose};
 ghost use Rattle.model.specs.Time.{after_ticks, wakeups_in, next};
 ghost use Rattle.model.specs.Kernel.{call};
 ghost use Rattle.model.specs.Layout.{view, lay, sound_image};
-ghost use Rattle.fields.specs.Fields.{Sized};
 ghost use Rattle.theorems.specs.Leap.{spend, quantum_leap};
 ghost use Rattle.words.specs.Images.{Whole, Does};
 ghost use Rattle.timed.specs.Ahead.{Falls, Unchanged, fall};
 ghost use Rattle.timed.specs.Counters.{running, nearest_counter, Due, Running, Foreseen};
 ghost use Rattle.timed.specs.Owed.{owed};
-ghost use Rattle.timed.specs.Running.{TimersTo, LimitsFrom};
+ghost use Rattle.timed.specs.Running.{LimitsFrom};
+ghost use Rattle.timed.specs.Within.{Within};
 
+use crate::running::Reach;
 use fields::head;
-use fields::places::{THREAD_COUNT, TIMER_COUNT};
-use model::answers::{Answer, Report};
+use fields::places::Image;
+use model::answers::Report;
 use model::requests::Request;
 use rules::counting::NEVER;
 use rules::{counting, numbers};
 use untimed::next;
 use words::choosing;
 
-mod counters;
 mod limits;
 mod quantum;
 mod running;
@@ -41,13 +41,6 @@ struct Ahead {
     from: usize,
 }
 
-// Timers below `stop` and threads' limits below `end` may run.
-#[derive(Clone, Copy)]
-struct Ends {
-    stop: usize,
-    end: usize,
-}
-
 // The wake-ups of an advance, and the next one after it.
 #[derive(Clone, Copy)]
 struct Passed {
@@ -56,7 +49,7 @@ struct Passed {
 }
 
 // Step 2, to the tick at place `until` and through it.
-fn use_quantum(image: &mut [u8], until: u32, quantum: u32)
+fn use_quantum(image: &mut Image, until: u32, quantum: u32)
     requires whole { Whole image.old }
     requires falls { Falls until quantum (view image.old) }
     ensures { Does image.old (quantum_leap (until + 1)) image.new }
@@ -69,7 +62,7 @@ fn use_quantum(image: &mut [u8], until: u32, quantum: u32)
 }
 
 // Step 5, which there is no need for where nobody has moved. Hands back the place of the end of the running thread's quantum.
-fn choose_anew(image: &mut [u8], moved: bool, until: u32, quantum: u32) -> u32
+fn choose_anew(image: &mut Image, moved: bool, until: u32, quantum: u32) -> u32
     requires whole { Whole image.old }
     requires unchanged { moved ≡ false → Unchanged until quantum (view image.old) }
     ensures image { Does image.old choose image.new }
@@ -86,37 +79,29 @@ fn choose_anew(image: &mut [u8], moved: bool, until: u32, quantum: u32) -> u32
 }
 
 // To the tick at place `until` and through it, in which a timer or a limit falls due; `ticks` are those that timers and limits are told of then.
-fn fall(
-    image: &mut [u8],
-    until: u32,
-    ticks: u32,
-    quantum: u32,
-    stop: usize,
-    from: usize,
-    end: usize,
-) -> Ahead
+fn fall(image: &mut Image, until: u32, ticks: u32, quantum: u32, reach: Reach) -> Ahead
     requires whole { Whole image.old }
     requires falls { Falls until quantum (view image.old) × (0 < ticks) }
-    requires timers_to { TimersTo stop (view image.old) × LimitsFrom from end (view image.old) }
+    requires within { Within reach (view image.old) }
     ensures image { Does image.old (fall (until + 1) ticks) image.new }
     ensures ahead { Foreseen (view image.new) result.due result.quantum }
-    ensures from { LimitsFrom result.from end (view image.new) }
+    ensures from { LimitsFrom result.from reach.end (view image.new) }
 {
     use_quantum(image, until, quantum);
-    let timed = timers::leap_timers(image, ticks, stop);
-    let limited = limits::fall_limits(image, ticks, from, end);
-    let due = counting::earlier(timed.nearest, limited.nearest);
-    let moved = (quantum == until) | timed.moved | limited.moved;
+    let timed = timers::leap_timers(image, ticks, reach.stop);
+    let limited = limits::fall_limits(image, ticks, reach.from, reach.end);
+    let due = timed.nearest.min(limited.walk.nearest);
+    let moved = (quantum == until) | timed.moved | limited.walk.moved;
     let later = choose_anew(image, moved, until, quantum);
     Ahead {
-        due: due,
+        due,
         quantum: later,
         from: limited.from,
     }
 }
 
 // Ticks before the quantum's end: it is less by as many. Hands back what is left of it, where it counts.
-fn rest_quantum(image: &mut [u8], left: u32, quantum: u32) -> u32
+fn rest_quantum(image: &mut Image, left: u32, quantum: u32) -> u32
     requires whole { Whole image.old }
     requires running { Running (view image.old) quantum × Free left (running (view image.old)) }
     ensures image { Does image.old (spend left) image.new }
@@ -130,70 +115,45 @@ fn rest_quantum(image: &mut [u8], left: u32, quantum: u32) -> u32
 }
 
 // Ticks before any timer or limit falls due. Hands back what the nearest has left, or 0.
-fn rest_counters(
-    image: &mut [u8],
-    ticks: u32,
-    due: u32,
-    stop: usize,
-    from: usize,
-    end: usize,
-) -> u32
+fn rest_counters(image: &mut Image, ticks: u32, due: u32, reach: Reach) -> u32
     requires whole { Whole image.old }
     requires due { Due (view image.old) due × Free ticks (nearest_counter (view image.old)) }
-    requires timers_to { TimersTo stop (view image.old) × LimitsFrom from end (view image.old) }
+    requires within { Within reach (view image.old) }
     ensures image { Does image.old (owed ticks) image.new }
     ensures left { result ≡ nearest_counter (view image.old) - ticks }
 {
     if due == NEVER {
         return 0;
     }
-    settling::settle(image, ticks, stop, from, end);
+    settling::settle(image, ticks, reach);
     due + 1 - ticks
 }
 
-// How far timers and limits have to be looked at; where there is no wake-up to come it isn't worth finding out.
-fn reach(image: &[u8], wakes: bool) -> Ends
-    requires { Sized image.now }
-    ensures { TimersTo result.stop (view image.now) × LimitsFrom 0 result.end (view image.now) }
-{
-    if wakes {
-        return Ends {
-            stop: running::timers_end(image),
-            end: running::limits_end(image),
-        };
-    }
-    Ends {
-        stop: TIMER_COUNT,
-        end: THREAD_COUNT,
-    }
-}
-
 // n ticks at once. `debt` is how many of them timers and limits are owed, and `due` the place of the nearest as it stands in the image.
-fn pass(image: &mut [u8], n: u32) -> Passed
+fn pass(image: &mut Image, n: u32) -> Passed
     requires { sound_image image.old ≡ true }
     ensures image { Does image.old (after_ticks n) image.new }
     ensures wakeups { result.wakeups ≡ wakeups_in n (view image.old) }
     ensures next { result.next ≡ next (view image.new) }
 {
-    let clock = std::num::wrapping_add_u32(head::clock(image), n);
+    let clock = head::clock(image).wrapping_add(n);
     let timer = next::nearest_timer(image);
     let limit = next::nearest_limit(image);
-    let mut due = counting::earlier(timer, limit);
+    let mut due = timer.min(limit);
     let mut quantum = counting::place(next::quantum_left(image) as u32);
-    let ends = reach(image, counting::earlier(quantum, due) < n);
-    let mut from: usize = 0;
+    let mut reach = Reach::of(image, quantum.min(due) < n);
     let mut debt: u32 = 0;
     let mut left = n;
     let mut woken: u32 = 0;
-    while counting::earlier(quantum, due - debt) < left {
+    while quantum.min(due - debt) < left {
         let until = due - debt;
         woken = woken + 1;
         if until <= quantum {
             left = left - until - 1;
-            let ahead = fall(image, until, due + 1, quantum, ends.stop, from, ends.end);
+            let ahead = fall(image, until, due + 1, quantum, reach);
             due = ahead.due;
             quantum = ahead.quantum;
-            from = ahead.from;
+            reach.from = ahead.from;
             debt = 0;
         } else {
             left = left - quantum - 1;
@@ -202,7 +162,7 @@ fn pass(image: &mut [u8], n: u32) -> Passed
         }
     }
     let own = rest_quantum(image, left, quantum);
-    let others = rest_counters(image, debt + left, due, ends.stop, from, ends.end);
+    let others = rest_counters(image, debt + left, due, reach);
     head::set_clock(image, clock);
     Passed {
         wakeups: woken,
@@ -210,22 +170,8 @@ fn pass(image: &mut [u8], n: u32) -> Passed
     }
 }
 
-// The report, with what the image holds.
-fn told(image: &[u8], answer: Answer, wakeups: u32, next: u32) -> Report
-    requires { Sized image.now }
-    ensures { result ≡ record { answer = answer; chosen = (view image.now).chosen; clock = (view image.now).clock; wakeups = wakeups; next = next } }
-{
-    Report {
-        answer: answer,
-        chosen: head::chosen(image),
-        clock: head::clock(image),
-        wakeups: wakeups,
-        next: next,
-    }
-}
-
 // Call 22 on a sound image: its answer, what is reported beside it, and the image after it. A refusal writes nothing.
-pub fn timed(image: &mut [u8], q: Request) -> Report
+pub fn timed(image: &mut Image, q: Request) -> Report
     requires image_value { sound_image image.old ≡ true }
     requires call_value { q.call ≡ 22 }
     ensures report { result ≡ (call (view image.old) q).report }
@@ -234,8 +180,8 @@ pub fn timed(image: &mut [u8], q: Request) -> Report
     let answer = judging::answer(image, q);
     if !numbers::is_accepted(answer) {
         let next = next::next_wake_up(image);
-        return told(image, answer, 0, next);
+        return untimed::told(image, answer, 0, next);
     }
     let passed = pass(image, q.a);
-    told(image, answer, passed.wakeups, passed.next)
+    untimed::told(image, answer, passed.wakeups, passed.next)
 }

@@ -1,4 +1,5 @@
-// Limits by id (01, One tick, 4).
+// Limits by id (01, One tick, 4). The two ends of a walk are two numbers: std's range can't be copied, and a `for` over one that is handed in
+// loses the index in the proof.
 ghost use Rattle.std.specs.Prelude.{◌≡◌, ◌<◌, false};
 ghost use Rattle.sequences.specs.Lists.{count_all};
 ghost use Rattle.sequences.specs.Steps.{in_order};
@@ -12,9 +13,9 @@ ghost use Rattle.timed.specs.Limited.{Limited};
 ghost use Rattle.timed.specs.Running.{LimitsFrom};
 ghost use Rattle.timed.specs.Unmoved.{Unmoved};
 
+use crate::running;
 use crate::walks::{LimitWalk, Walk};
-use crate::{counters, running};
-use fields::places::PRIORITY_COUNT;
+use fields::places::{Image, PRIORITY_COUNT};
 use fields::threads;
 use model::lists::SLEEP_LIST;
 use rules::counting;
@@ -22,7 +23,7 @@ use rules::counting::NEVER;
 use words::{standing, waking};
 
 // A wait that its limit ends has result 2, a sleep 1. Who has slept longest of all mostly heads its list, and then no list is searched for.
-fn run_out(image: &mut [u8], i: usize)
+fn run_out(image: &mut Image, i: usize)
     requires given { Given image.old i }
     requires waits_nonzero { 0 < count_all i (view image.old).waits }
     ensures { Does image.old (run_out i) image.new }
@@ -40,7 +41,7 @@ fn run_out(image: &mut [u8], i: usize)
 }
 
 // All of them, so many ticks on; whose limit runs out there becomes ready. Threads before `from` and from `end` on have none.
-pub fn leap_limits(image: &mut [u8], ticks: u32, from: usize, end: usize) -> Walk
+pub fn leap_limits(image: &mut Image, ticks: u32, from: usize, end: usize) -> Walk
     requires whole { Whole image.old }
     requires ticks_nonzero { (0 < ticks) × Limited (view image.old) × LimitsFrom from end (view image.old) }
     ensures image { Does image.old (in_order thread_count (limit_leap ticks)) image.new }
@@ -49,48 +50,40 @@ pub fn leap_limits(image: &mut [u8], ticks: u32, from: usize, end: usize) -> Wal
 {
     let mut nearest = NEVER;
     let mut moved = false;
-    let mut i = from;
-    while i < end {
+    for i in from..end {
         let mut x = threads::limit(image, i);
         if x == ticks {
             run_out(image, i);
             moved = true;
             x = 0;
         } else {
-            x = counters::less(x, ticks);
+            x = x.saturating_sub(ticks);
             threads::set_limit(image, i, x);
         }
-        let p = counting::place(x);
-        nearest = counting::earlier(p, nearest);
-        i += 1;
+        nearest = counting::place(x).min(nearest);
     }
-    Walk {
-        nearest: nearest,
-        moved: moved,
-    }
+    Walk { nearest, moved }
 }
 
 // And from which thread on there are still limits; where there are none at all nothing is looked at.
-pub fn fall_limits(image: &mut [u8], ticks: u32, from: usize, end: usize) -> LimitWalk
+pub fn fall_limits(image: &mut Image, ticks: u32, from: usize, end: usize) -> LimitWalk
     requires whole { Whole image.old }
     requires ticks_nonzero { (0 < ticks) × Limited (view image.old) × LimitsFrom from end (view image.old) }
     ensures image { Does image.old (in_order thread_count (limit_leap ticks)) image.new }
-    ensures nearest { Nearest (limits (view image.new)) result.nearest }
-    ensures unmoved { result.moved ≡ false → Unmoved (view image.old) (view image.new) }
+    ensures nearest { Nearest (limits (view image.new)) result.walk.nearest }
+    ensures unmoved { result.walk.moved ≡ false → Unmoved (view image.old) (view image.new) }
     ensures from { LimitsFrom result.from end (view image.new) }
 {
     if end <= from {
         return LimitWalk {
-            nearest: NEVER,
-            moved: false,
-            from: from,
+            walk: Walk {
+                nearest: NEVER,
+                moved: false,
+            },
+            from,
         };
     }
-    let first = running::limits_begin(image, from, end);
-    let walk = leap_limits(image, ticks, first, end);
-    LimitWalk {
-        nearest: walk.nearest,
-        moved: walk.moved,
-        from: first,
-    }
+    let from = running::limits_begin(image, from, end);
+    let walk = leap_limits(image, ticks, from, end);
+    LimitWalk { walk, from }
 }

@@ -10,13 +10,13 @@ ghost use Rattle.words.specs.Images.{Whole, Does};
 ghost use Rattle.timed.specs.Counters.{running};
 ghost use Rattle.timed.specs.Turns.{turn_over, take_turns};
 
-use fields::places::FIRSTS;
+use fields::places::{FIRSTS, Image};
 use fields::{head, threads};
 use rules::counting;
 use words::waking;
 
 // Less by m; the quantum counts, and so much is left of it.
-pub fn spend(image: &mut [u8], m: u32)
+pub fn spend(image: &mut Image, m: u32)
     requires whole { Whole image.old }
     requires image_value { (quantum_counts (view image.old) ≡ true) × (m ≤ (thread (view image.old).chosen (view image.old)).left) }
     ensures { Does image.old (spend m) image.new }
@@ -27,7 +27,7 @@ pub fn spend(image: &mut [u8], m: u32)
 }
 
 // Behind all others of its priority, with the whole quantum again.
-pub fn turn_over(image: &mut [u8])
+pub fn turn_over(image: &mut Image)
     requires whole { Whole image.old }
     requires image_value { (quantum_counts (view image.old) ≡ true) × (choice (view image.old) ≡ (view image.old).chosen) }
     ensures { Does image.old turn_over image.new }
@@ -40,7 +40,7 @@ pub fn turn_over(image: &mut [u8])
 }
 
 // And the choice, where nothing else happens: it falls on who heads the list then. Hands back the place of the end of that thread's quantum.
-pub fn take_turns(image: &mut [u8]) -> u32
+pub fn take_turns(image: &mut Image) -> u32
     requires whole { Whole image.old }
     requires image_value { (quantum_counts (view image.old) ≡ true) × (choice (view image.old) ≡ (view image.old).chosen) }
     ensures image { Does image.old take_turns image.new }

@@ -1,4 +1,5 @@
-// What a walk over counters has come to: the place of the nearest, and whether anybody may have been moved.
+// What a walk over counters has come to: the place of the nearest, and whether anybody may have been moved; either tells
+// nothing of the other.
 #[derive(Clone, Copy)]
 pub struct Walk {
     pub nearest: u32,
@@ -8,7 +9,6 @@ pub struct Walk {
 // The same of a walk over limits, and from which thread on there are any.
 #[derive(Clone, Copy)]
 pub struct LimitWalk {
-    pub nearest: u32,
-    pub moved: bool,
+    pub walk: Walk,
     pub from: usize,
 }

@@ -12,7 +12,6 @@ use fields::places::IMAGE_LENGTH;
 use model::requests::Request;
 use rules::reports;
 use rules::reports::REPORT_LENGTH;
-use untimed::next;
 
 #[unsafe(no_mangle)]
 pub extern "C" fn ordizgum_linked_image_length() -> u32
@@ -53,12 +52,12 @@ pub extern "C" fn ordizgum_linked_call(
     ensures image { image.new ≡ kept image.old (asked call id a b c d) }
 {
     let q = Request {
-        call: call,
-        id: id,
-        a: a,
-        b: b,
-        c: c,
-        d: d,
+        call,
+        id,
+        a,
+        b,
+        c,
+        d,
     };
     let told = in_place::call(image, q);
     let numbers = reports::as_numbers(told);
@@ -71,10 +70,7 @@ pub extern "C" fn ordizgum_linked_next_wake_up(image: &[u8], next: &mut [u32; 1]
     ensures answer { result ≡ zero_if (sound_image image.now) }
     ensures next { next.new ≡ (next_told image.now).next ∷ [] }
 {
-    if !in_place::is_sound(image) {
-        *next = [0];
-        return 1;
-    }
-    *next = [next::next_wake_up(image)];
-    0
+    let told = in_place::next_wake_up(image);
+    *next = [told.next];
+    u32::from(told.answer)
 }

@@ -2,20 +2,15 @@
 ghost use Rattle.std.specs.Prelude.{◌≡◌};
 ghost use Rattle.model.specs.State.{fresh};
 ghost use Rattle.model.specs.Layout.{lay};
-ghost use Rattle.fields.specs.Fields.{Sized};
 
-use fields::head;
-use fields::places::IMAGE_LENGTH;
+use fields::head::CHOSEN;
+use fields::places::{IMAGE_LENGTH, Image};
 use model::tables::NOBODY;
 
-pub fn fresh(image: &mut [u8])
-    requires { Sized image.old }
+#[tactic(auto, unfolding(model::specs::Layout::lay, model::specs::State::fresh, sequences::specs::Bytes::flat, sequences::specs::Links::half_of, sequences::specs::Lists::tabulate))]
+pub fn fresh(image: &mut Image)
     ensures { image.new ≡ lay fresh }
 {
-    let mut k: usize = 0;
-    while k < IMAGE_LENGTH {
-        image[k] = 0;
-        k += 1;
-    }
-    head::set_chosen(image, NOBODY);
+    *image = [0; IMAGE_LENGTH];
+    image[CHOSEN] = NOBODY;
 }

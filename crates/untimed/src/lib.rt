@@ -12,8 +12,9 @@ ghost use Rattle.words.specs.Images.{Whole, Does};
 
 use effects::{scheduling, threads, timers};
 use fields::head;
+use fields::places::Image;
 use model::answers::{Answer, Report};
-use model::calls::{CREATE_FLAGS, CREATE_MUTEX, CREATE_SEMAPHORE, SCHEDULING, START_TIMER};
+use model::calls::Call;
 use model::requests::Request;
 use rules::numbers;
 use serving::{flags, mutexes, semaphores};
@@ -22,38 +23,41 @@ use words::choosing;
 pub mod fresh;
 pub mod next;
 
-fn effect(image: &mut [u8], q: Request)
+// Time passes by other words, and what has no number has no effect.
+#[tactic(auto, unfolding(model::specs::Kernel::judge, theorems::specs::Effect::effect_of, theorems::specs::Effect::effect_by))]
+fn effect(image: &mut Image, q: Request)
     requires whole { Whole image.old }
     requires accepted { Accepted q (view image.old) }
-    requires call_bound { q.call < 22 }
     ensures { Does image.old (effect q) image.new }
 {
-    let call = q.call;
-    if call < CREATE_SEMAPHORE {
-        threads::effect(image, q);
-        return;
+    match Call::try_from(q.call) {
+        Ok(Call::CreateThread) => threads::create_thread(image, q),
+        Ok(Call::Start) => threads::start(image, q),
+        Ok(Call::Stop) => threads::stop(image, q),
+        Ok(Call::Exit) => threads::exit(image, q),
+        Ok(Call::Yield) => threads::yields(image, q),
+        Ok(Call::Sleep) => threads::sleep(image, q),
+        Ok(Call::SetPriority) => threads::set_priority(image, q),
+        Ok(Call::SetQuantum) => threads::set_quantum(image, q),
+        Ok(Call::CreateSemaphore) => semaphores::create_semaphore(image, q),
+        Ok(Call::Pend) => semaphores::pend(image, q),
+        Ok(Call::Post) => semaphores::post(image, q),
+        Ok(Call::CreateMutex) => mutexes::create_mutex(image, q),
+        Ok(Call::Claim) => mutexes::claim(image, q),
+        Ok(Call::Release) => mutexes::release(image, q),
+        Ok(Call::CreateFlags) => flags::create_flags(image, q),
+        Ok(Call::Wait) => flags::wait(image, q),
+        Ok(Call::Set) => flags::set(image, q),
+        Ok(Call::Clear) => flags::clear(image, q),
+        Ok(Call::StartTimer) => timers::start_timer(image, q),
+        Ok(Call::StopTimer) => timers::stop_timer(image, q),
+        Ok(Call::Scheduling) => scheduling::scheduling(image, q),
+        Ok(Call::Advance) | Err(_) => {}
     }
-    if call < CREATE_MUTEX {
-        semaphores::effect(image, q);
-        return;
-    }
-    if call < CREATE_FLAGS {
-        mutexes::effect(image, q);
-        return;
-    }
-    if call < START_TIMER {
-        flags::effect(image, q);
-        return;
-    }
-    if call < SCHEDULING {
-        timers::effect(image, q);
-        return;
-    }
-    scheduling::scheduling(image, q);
 }
 
 // The effect, then the choice (01, Calls, on choosing).
-fn perform(image: &mut [u8], q: Request)
+fn perform(image: &mut Image, q: Request)
     requires whole { Whole image.old }
     requires accepted { Accepted q (view image.old) }
     requires call_bound { q.call < 22 }
@@ -64,7 +68,7 @@ fn perform(image: &mut [u8], q: Request)
 }
 
 // A refusal writes nothing.
-fn carry_out(image: &mut [u8], q: Request, a: Answer)
+fn carry_out(image: &mut Image, q: Request, a: Answer)
     requires image_value { sound_image image.old ≡ true }
     requires a_value { (a ≡ judge (numbered q.call) q (view image.old)) × ((q.call ≡ 22) → ⊥) }
     ensures { Does image.old (next_state a q) image.new }
@@ -74,8 +78,23 @@ fn carry_out(image: &mut [u8], q: Request, a: Answer)
     }
 }
 
+// The report, with what the image holds; and of an image on loan each number is a byte, so that its view tells them all.
+pub fn told(image: &Image, answer: Answer, wakeups: u32, next: u32) -> Report
+    requires { Whole image.now }
+    ensures report { result ≡ record { answer = answer; chosen = (view image.now).chosen; clock = (view image.now).clock; wakeups = wakeups; next = next } }
+    ensures laid { image.now ≡ lay (view image.now) }
+{
+    Report {
+        answer,
+        chosen: head::chosen(image),
+        clock: head::clock(image),
+        wakeups,
+        next,
+    }
+}
+
 // A call in which no time passes, on a sound image: its answer, what is reported beside it, and the image after it.
-pub fn untimed(image: &mut [u8], q: Request) -> Report
+pub fn untimed(image: &mut Image, q: Request) -> Report
     requires image_value { sound_image image.old ≡ true }
     requires fact { (q.call ≡ 22) → ⊥ }
     ensures report { result ≡ (call (view image.old) q).report }
@@ -83,11 +102,6 @@ pub fn untimed(image: &mut [u8], q: Request) -> Report
 {
     let answer = judging::answer(image, q);
     carry_out(image, q, answer);
-    Report {
-        answer: answer,
-        chosen: head::chosen(image),
-        clock: head::clock(image),
-        wakeups: 0,
-        next: next::next_wake_up(image),
-    }
+    let next = next::next_wake_up(image);
+    told(image, answer, 0, next)
 }

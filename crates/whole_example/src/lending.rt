@@ -17,13 +17,13 @@ pub fn first_run(t: Held, create: Request, start: Request, ticks: u32) -> Told
     ensures { result ≡ first_run create start ticks }
 {
     let mut table = t;
-    lent::fresh(&mut table);
-    let created = lent::call(&mut table, create);
-    let started = lent::call(&mut table, start);
-    let advanced = lent::advance(&mut table, ticks);
+    table.fresh();
+    let created = table.call(create);
+    let started = table.call(start);
+    let advanced = table.advance(ticks);
     Told {
-        created: created,
-        started: started,
-        advanced: advanced,
+        created,
+        started,
+        advanced,
     }
 }

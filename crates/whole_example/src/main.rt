@@ -5,21 +5,17 @@
 use fields::places::IMAGE_LENGTH;
 use lent::Held;
 use model::answers::Report;
-use model::calls::{CREATE_THREAD, START};
+use model::calls::Call;
 use model::requests::Request;
-use rules::numbers;
 use std::io;
 
 mod lending;
 
-// Four numbers at their longest.
-const LINE: usize = 84;
-
-fn request(call: u32, id: u32, a: u32) -> Request {
+fn request(call: Call, id: u32, a: u32) -> Request {
     Request {
-        call: call,
-        id: id,
-        a: a,
+        call: u32::from(call),
+        id,
+        a,
         b: 0,
         c: 0,
         d: 0,
@@ -27,25 +23,20 @@ fn request(call: u32, id: u32, a: u32) -> Request {
 }
 
 fn tell(out: &impl Print, told: Report) -> io::Result<()> {
-    let mut line = [0u8; LINE];
-    let answer = told.answer;
-    let number = numbers::number(answer);
-    let length = text::put_numbers(
-        &mut line,
-        0,
-        number,
-        told.chosen as u32,
-        told.clock,
-        told.wakeups,
-    );
-    out.write_all(&line[..length])
+    let answer = u32::from(told.answer);
+    println!(out; "{answer} {} {} {}", told.chosen, told.clock, told.wakeups)
 }
 
 fn main(rt: HostRuntime) -> io::Result<()> {
     let table = Held {
         image: [0; IMAGE_LENGTH],
     };
-    let told = lending::first_run(table, request(CREATE_THREAD, 3, 4), request(START, 3, 0), 5);
+    let told = lending::first_run(
+        table,
+        request(Call::CreateThread, 3, 4),
+        request(Call::Start, 3, 0),
+        5,
+    );
     tell(&rt, told.created)?;
     tell(&rt, told.started)?;
     tell(&rt, told.advanced)

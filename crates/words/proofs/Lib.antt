@@ -1,3 +1,4 @@
+pub mod Named
 pub mod Does
 pub mod Lists
 pub mod Known

@@ -5,7 +5,7 @@ ghost use Rattle.model.specs.Words.{choice, choose};
 ghost use Rattle.model.specs.Layout.{view};
 ghost use Rattle.fields.specs.Fields.{Sized, Alters};
 
-use fields::places::{FIRSTS, PRIORITY_COUNT, THREAD_COUNT};
+use fields::places::{FIRSTS, Image, PRIORITY_COUNT, THREAD_COUNT};
 use fields::{head, threads};
 use model::tables::NOBODY;
 
@@ -14,28 +14,24 @@ const UPPER_HALF: usize = 4;
 
 // The head of the highest ready list that isn't empty, or nobody, whatever the links are otherwise. The four highest lists are looked at together
 // first, and passed over where all are empty.
-pub fn choice(image: &[u8]) -> u8
-    requires { Sized image.now }
+pub fn choice(image: &Image) -> u8
     ensures { result ≡ choice (view image.now) }
 {
     let mut above: usize = PRIORITY_COUNT;
     if packed::u32_at(image, FIRSTS + UPPER_HALF) == 0 {
         above = UPPER_HALF;
     }
-    while 0 < above {
-        let p = above - 1;
+    for p in (0..above).rev() {
         let link = image[FIRSTS + p];
         if link != 0 {
             return link - 1;
         }
-        above = p;
     }
     NOBODY
 }
 
 // All of its quantum again; where that is nobody, nobody has.
-fn refill(image: &mut [u8], c: u8)
-    requires { Sized image.old }
+fn refill(image: &mut Image, c: u8)
     ensures { Alters image.old (alter_thread c refilled) image.new }
 {
     let i = c as usize;
@@ -46,8 +42,7 @@ fn refill(image: &mut [u8], c: u8)
 }
 
 // Who comes to be chosen has all of its quantum again.
-pub fn choose(image: &mut [u8])
-    requires { Sized image.old }
+pub fn choose(image: &mut Image)
     ensures { Alters image.old choose image.new }
 {
     let c = choice(image);

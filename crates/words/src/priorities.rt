@@ -6,12 +6,12 @@ ghost use Rattle.model.specs.Words.{re_enter, take_priority};
 ghost use Rattle.words.specs.Images.{Given, Does};
 
 use crate::moving;
-use fields::places::{LINKED_LISTS, PRIORITY_COUNT};
+use fields::places::{Image, LINKED_LISTS, PRIORITY_COUNT};
 use fields::threads;
 use model::lists::SEMAPHORE_LIST;
 
 // Off its list before the priority changes, which tells a ready thread's list.
-fn retake(image: &mut [u8], i: usize, p: u8)
+fn retake(image: &mut Image, i: usize, p: u8)
     requires given { Given image.old i }
     requires p_bound { p < 8 }
     ensures { Does image.old (λ s. re_enter i (alter_thread i (with_current p) s)) image.new }
@@ -32,7 +32,7 @@ fn retake(image: &mut [u8], i: usize, p: u8)
     threads::set_current(image, i, p);
 }
 
-pub fn take_priority(image: &mut [u8], i: usize, p: u8)
+pub fn take_priority(image: &mut Image, i: usize, p: u8)
     requires given { Given image.old i }
     requires p_bound { p < 8 }
     ensures { Does image.old (take_priority i p) image.new }

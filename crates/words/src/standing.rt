@@ -9,11 +9,11 @@ ghost use Rattle.fields.specs.Fields.{Sized};
 ghost use Rattle.words.specs.Images.{Whole};
 
 use crate::moving;
-use fields::places::{FIRSTS, PRIORITY_COUNT, THREAD_COUNT};
+use fields::places::{FIRSTS, Image, PRIORITY_COUNT, THREAD_COUNT};
 use model::lists::STOPPED_LIST;
 
 // An id may be any number of 32 bits: who isn't a thread stands nowhere.
-pub fn is_ready(image: &[u8], i: u32) -> bool
+pub fn is_ready(image: &Image, i: u32) -> bool
     requires { Whole image.now }
     ensures { result ≡ is_ready i (view image.now) }
 {
@@ -23,7 +23,7 @@ pub fn is_ready(image: &[u8], i: u32) -> bool
     false
 }
 
-pub fn is_stopped(image: &[u8], i: u32) -> bool
+pub fn is_stopped(image: &Image, i: u32) -> bool
     requires { Whole image.now }
     ensures { result ≡ is_stopped i (view image.now) }
 {
@@ -34,8 +34,7 @@ pub fn is_stopped(image: &[u8], i: u32) -> bool
 }
 
 // The link to the first of list j, which is no ready list: its id plus one, or 0.
-pub fn first_of(image: &[u8], j: usize) -> u8
-    requires sized { Sized image.now }
+pub fn first_of(image: &Image, j: usize) -> u8
     requires j_bound { j < 18 }
     ensures { result ≡ head_link (list j (view image.now)) }
 {
@@ -43,8 +42,7 @@ pub fn first_of(image: &[u8], j: usize) -> u8
 }
 
 // Somebody stands on list j, which is no ready list. A list has a first exactly where it isn't empty, whatever its links are otherwise.
-pub fn waited_for(image: &[u8], j: usize) -> bool
-    requires sized { Sized image.now }
+pub fn waited_for(image: &Image, j: usize) -> bool
     requires j_bound { j < 18 }
     ensures { result ≡ waited_for j (view image.now) }
 {

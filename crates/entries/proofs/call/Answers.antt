@@ -9,18 +9,18 @@ sound : (c : Then-is_sound) → sound_table c.args.t c.args.rows.now ≡ true
 sound c = sym c.is_sound.ensures ∙ c.if-is_sound.true
 
 pub timed-requires : goal.timed-requires
-timed-requires c = record { rows_value = sound (goal.at.timed-requires c).Then-is_sound; call_value = c.if-q-eq-ADVANCE.true }
+timed-requires c = record { rows_value = sound (goal.at.timed-requires c).Then-is_sound; call_value = c.if-q.true }
 
 pub untimed-requires : goal.untimed-requires
-untimed-requires c = record { rows_value = sound (goal.at.untimed-requires c).Then-is_sound; fact = c.if-q-eq-ADVANCE.false }
+untimed-requires c = record { rows_value = sound (goal.at.untimed-requires c).Then-is_sound; fact = c.if-q.false }
 
-pub returns-then-q-eq-ADVANCE : goal.returns-then-q-eq-ADVANCE
+pub returns-then-q : goal.returns-then-q
 unfolding call_table call_by
-returns-then-q-eq-ADVANCE c = rw (sound (goal.at.returns-then-q-eq-ADVANCE c).Then-is_sound) c.timed.ensures
+returns-then-q c = rw (sound (goal.at.returns-then-q c).Then-is_sound) c.timed.ensures
 
-pub returns-else-q-eq-ADVANCE : goal.returns-else-q-eq-ADVANCE
+pub returns-else-q : goal.returns-else-q
 unfolding call_table call_by
-returns-else-q-eq-ADVANCE c = rw (sound (goal.at.returns-else-q-eq-ADVANCE c).Then-is_sound) c.untimed.ensures
+returns-else-q c = rw (sound (goal.at.returns-else-q c).Then-is_sound) c.untimed.ensures
 
 pub returns-else-is_sound : goal.returns-else-is_sound
 unfolding call_table call_by

@@ -1,23 +1,19 @@
 -- By the length: a wrong one leaves every byte, and into the right one the fresh table is written.
-use mathlib.Core.Path.{◌≡◌, refl}
-use mathlib.Core.Bool.{true, false}
-use lib.Dec.{eqb}
-use lib.ListN.{length}
-use borrow.Author.Tests.{eq-eqb, ne_eqb}
+use Rattle.std.proofs.Common.{◌≡◌, true, false, eqb, length, refl, eq-eqb, ne_eqb}
 use Rattle.model.specs.Layout.{image_length}
 use Rattle.in_place.specs.Kept.{fresh_kept}
 use Rattle.in_place.proofs.fresh.Goals as goal
 
-pub returns-then-image-ne-IMAGE_LENGTH : goal.returns-then-image-ne-IMAGE_LENGTH
+pub returns-in-Some-clause-image : goal.returns-in-Some-clause-image
 unfolding fresh_kept
-returns-then-image-ne-IMAGE_LENGTH c =
-    let s = c.args.image.now in
-    let wrong : eqb (length s) image_length ≡ false = ne_eqb (length s) image_length c.if-image-ne-IMAGE_LENGTH.true in
-    record { answer = rw wrong refl; image = rw wrong refl }
+returns-in-Some-clause-image c =
+    let b = c.args.image.now in
+    let fits : eqb (length b) image_length ≡ true = eq-eqb (length b) image_length (c.in-Some.ensures.variant.0 refl) in
+    rw fits c.fresh.ensures
 
-pub returns : goal.returns
+pub returns-in-None-clause-image : goal.returns-in-None-clause-image
 unfolding fresh_kept
-returns c =
-    let s = c.args.image.now in
-    let fits : eqb (length s) image_length ≡ true = eq-eqb (length s) image_length c.if-image-ne-IMAGE_LENGTH.false in
-    record { answer = rw fits refl; image = rw fits c.fresh.ensures }
+returns-in-None-clause-image c =
+    let b = c.args.image.now in
+    let wrong : eqb (length b) image_length ≡ false = ne_eqb (length b) image_length c.in-None.ensures.cases in
+    rw wrong refl

@@ -1,34 +1,7 @@
--- Only of a sound image there is something to tell.
-use mathlib.Core.Path.{◌≡◌, sym, ◌∙◌}
-use mathlib.Core.Bool.{true}
-use Rattle.model.specs.Layout.{sound_image}
-use Rattle.words.specs.Images.{Whole}
-use Rattle.untimed.proofs.Laid.{sound-whole}
-use Rattle.in_place.specs.Kept.{next_told}
+-- Bytes of another length are no image.
+use Rattle.std.proofs.Common.{◌∙◌}
+use Rattle.in_place.proofs.Lengths.{next-other}
 use Rattle.in_place.proofs.next_wake_up.Goals as goal
-use Rattle.in_place.proofs.next_wake_up.Goals.{Else-not-is_sound}
 
-found : (c : Else-not-is_sound) → sound_image c.args.image.now ≡ true
-found c = sym c.is_sound.ensures ∙ c.if-not-is_sound.false
-
-whole : (c : Else-not-is_sound) → Whole c.args.image.now
-whole c = sound-whole c.args.image.now (found c)
-
-pub returns-then-not-is_sound : goal.returns-then-not-is_sound
-unfolding next_told
-returns-then-not-is_sound c =
-    rw (sym c.is_sound.ensures ∙ c.if-not-is_sound.true) c.unsound.ensures
-
-pub chosen-requires : goal.chosen-requires
-chosen-requires c = (whole c).size
-
-pub clock-requires : goal.clock-requires
-clock-requires c = (whole (goal.at.clock-requires c).Else-not-is_sound).size
-
-pub next_wake_up-requires : goal.next_wake_up-requires
-next_wake_up-requires c = whole (goal.at.next_wake_up-requires c).Else-not-is_sound
-
-pub returns : goal.returns
-unfolding next_told
-returns c =
-    rw (found (goal.at.returns c).Else-not-is_sound, c.chosen.ensures, c.clock.ensures, c.next_wake_up.ensures)
+pub returns-in-None : goal.returns-in-None
+returns-in-None c = c.unsound.ensures ∙ next-other c.args.image.now c.in-None.ensures.cases

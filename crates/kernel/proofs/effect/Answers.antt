@@ -1,36 +1,40 @@
--- By the number the call's family is found, and its effect passed on.
-use mathlib.Core.Path.{◌≡◌, refl}
-use native.Mathlib.Omega.{arith}
-use Rattle.model.specs.Calls.{calls, numbered, scheduling}
-use Rattle.model.specs.Before.{view}
-use Rattle.table.specs.Orderly.{Orderly}
-use Rattle.table.proofs.Stored.{sound-whole}
-use Rattle.table.proofs.Views.{does}
+-- The calls that leave the rows as they are, and the one in which time passes, which is not of these.
+use Rattle.model.specs.Calls.{create_thread, set_quantum, create_semaphore, create_mutex, create_flags, start_timer, stop_timer, scheduling}
 use Rattle.theorems.specs.Effect.{effect_of}
-use Rattle.theorems.proofs.Numbered.{call-number}
-use Rattle.kernel.proofs.Numbered.{allowed, meets_effect}
+use Rattle.kernel.proofs.Numbered.{meets_effect, no_effect}
 use Rattle.kernel.proofs.effect.Goals as goal
-use Rattle.kernel.proofs.effect.Goals.{Else-call-lt-SCHEDULING, Start}
 
-order : (s : Start) → Orderly s.args.t s.args.rows.now
-order s = (sound-whole s.requires.accepted.sound).order
+pub returns-in-Ok-CreateThread : goal.returns-in-Ok-CreateThread
+unfolding effect_of
+returns-in-Ok-CreateThread c = meets_effect create_thread (rw c.in-Ok-CreateThread.field-0-is at c.in-Ok-CreateThread.ensures) c.requires.accepted c.create_thread.ensures
 
-last : (c : Else-call-lt-SCHEDULING) → c.args.q.call ≡ 21
-last c = omega (arith, c.requires.call_bound, c.if-call-lt-SCHEDULING.false)
+pub returns-in-Ok-SetQuantum : goal.returns-in-Ok-SetQuantum
+unfolding effect_of
+returns-in-Ok-SetQuantum c = meets_effect set_quantum (rw c.in-Ok-SetQuantum.field-0-is at c.in-Ok-SetQuantum.ensures) c.requires.accepted c.set_quantum.ensures
 
-pub effect-requires : goal.effect-requires
-effect-requires c =
-    let q = c.args.q in record { accepted = c.requires.accepted; le_call = ((call-number q (view c.args.t c.args.rows.now) q.call c.requires.accepted.passed).0, c.if-call-lt-CREATE_SEMAPHORE.true) }
+pub returns-in-Ok-CreateSemaphore : goal.returns-in-Ok-CreateSemaphore
+unfolding effect_of
+returns-in-Ok-CreateSemaphore c = meets_effect create_semaphore (rw c.in-Ok-CreateSemaphore.field-0-is at c.in-Ok-CreateSemaphore.ensures) c.requires.accepted c.create_semaphore.ensures
 
-pub returns-then-call-lt-SCHEDULING : goal.returns-then-call-lt-SCHEDULING
-returns-then-call-lt-SCHEDULING c = does c.args.rows.now (order (goal.at.returns-then-call-lt-SCHEDULING c).Start) c.effect-then-call-lt-SCHEDULING.ensures
+pub returns-in-Ok-CreateMutex : goal.returns-in-Ok-CreateMutex
+unfolding effect_of
+returns-in-Ok-CreateMutex c = meets_effect create_mutex (rw c.in-Ok-CreateMutex.field-0-is at c.in-Ok-CreateMutex.ensures) c.requires.accepted c.create_mutex.ensures
 
-pub scheduling-requires : goal.scheduling-requires
-unfolding numbered calls
-scheduling-requires c =
-    (c.args.rows.now, allowed c.args.q 21 scheduling (last c) refl c.requires.accepted)
+pub returns-in-Ok-CreateFlags : goal.returns-in-Ok-CreateFlags
+unfolding effect_of
+returns-in-Ok-CreateFlags c = meets_effect create_flags (rw c.in-Ok-CreateFlags.field-0-is at c.in-Ok-CreateFlags.ensures) c.requires.accepted c.create_flags.ensures
 
-pub returns : goal.returns
-unfolding numbered calls effect_of
-returns c =
-    does c.args.rows.now (order (goal.at.returns c).Start) (meets_effect c.args.q 21 scheduling (last (goal.at.returns c).Else-call-lt-SCHEDULING) refl c.scheduling.ensures)
+pub returns-in-Ok-StartTimer : goal.returns-in-Ok-StartTimer
+unfolding effect_of
+returns-in-Ok-StartTimer c = meets_effect start_timer (rw c.in-Ok-StartTimer.field-0-is at c.in-Ok-StartTimer.ensures) c.requires.accepted c.start_timer.ensures
+
+pub returns-in-Ok-StopTimer : goal.returns-in-Ok-StopTimer
+unfolding effect_of
+returns-in-Ok-StopTimer c = meets_effect stop_timer (rw c.in-Ok-StopTimer.field-0-is at c.in-Ok-StopTimer.ensures) c.requires.accepted c.stop_timer.ensures
+
+pub returns-in-Ok-Scheduling : goal.returns-in-Ok-Scheduling
+unfolding effect_of
+returns-in-Ok-Scheduling c = meets_effect scheduling (rw c.in-Ok-Scheduling.field-0-is at c.in-Ok-Scheduling.ensures) c.requires.accepted c.scheduling.ensures
+
+pub returns-in-Ok-Advance : goal.returns-in-Ok-Advance
+returns-in-Ok-Advance c = no_effect (rw c.in-Ok-Advance.field-0-is at c.in-Ok-Advance.ensures) c.requires.accepted

@@ -2,4 +2,4 @@
 use Rattle.kernel.proofs.reply.Goals as goal
 
 pub returns : goal.returns
-returns c = rw c.report-told.ensures
+returns c = rw c.report.ensures

@@ -7,16 +7,16 @@ use Rattle.image.specs.Image.{image_of}
 use Rattle.port.specs.Port.{right_length, fresh_after}
 use Rattle.port.proofs.ordizgum_fresh.Goals as goal
 
-pub returns-then-image-ne-IMAGE_LENGTH : goal.returns-then-image-ne-IMAGE_LENGTH
+pub returns-in_default : goal.returns-in_default
 unfolding fresh_after
-returns-then-image-ne-IMAGE_LENGTH c =
+returns-in_default c =
     let s = c.args.image.now in
-    let wrong : right_length s ≡ false = ne_eqb (length s) 920 c.if-image-ne-IMAGE_LENGTH.true in
+    let wrong : right_length s ≡ false = ne_eqb (length s) 920 c.in_default.ensures.cases in
     record { answer = rw wrong refl; image = rw wrong refl }
 
 pub returns : goal.returns
 unfolding fresh_after
 returns c =
     let s = c.args.image.now in
-    let fits : right_length s ≡ true = eq-eqb (length s) 920 c.if-image-ne-IMAGE_LENGTH.false in
+    let fits : right_length s ≡ true = eq-eqb (length s) 920 c.in-Some.ensures.cases.long in
     record { answer = rw fits refl; image = rw fits (c.write.ensures ∙ ap₂ image_of c.fresh.ensures c.fresh_rows.ensures) }

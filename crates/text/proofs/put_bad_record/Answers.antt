@@ -12,15 +12,15 @@ pub returns : goal.returns
 unfolding line_text
 returns c =
     let a = c.args in
-    let words = c.copy in
+    let words = c.copy_from_slice in
     let number = c.put_number in
     let stood = take a.at a.out.now in record {
       room = omega arith;
       text = two_behind stood bad_record_at (followed a.offset line_feed)
-          (part-behind a.out.now words.new.dst a.at 14 (ap length words.ensures) (omega arith)
-          ∙ ap (λ (v : List ℕ). stood ++ v) words.ensures)
+          (part-behind a.out.now words.new.self a.at 14 (ap length words.ensures.after) (omega arith)
+          ∙ ap (λ (v : List ℕ). stood ++ v) words.ensures.after)
           number.ensures.text;
       rest = number.ensures.rest
           ∙ rest_further _ _ (a.at + 14) number.result (omega arith)
-          (part-rest a.out.now words.new.dst a.at 14 (ap length words.ensures) (omega arith));
+          (part-rest a.out.now words.new.self a.at 14 (ap length words.ensures.after) (omega arith));
     }

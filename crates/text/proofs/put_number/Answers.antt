@@ -15,8 +15,8 @@ overflow_add-end c =
     let h : c.decimal-k.result ≤ 20 = few_digits _ _ (search rules) c.decimal-k.ensures.len in
     omega arith
 
-pub slice_bounds-copy-end : goal.slice_bounds-copy-end
-slice_bounds-copy-end c =
+pub slice_bounds-copy_from_slice-end : goal.slice_bounds-copy_from_slice-end
+slice_bounds-copy_from_slice-end c =
     let h : c.decimal-k.result ≤ 20 = few_digits _ _ (search rules) c.decimal-k.ensures.len in
     omega arith
 
@@ -42,8 +42,8 @@ returns c =
     let k : length v ≡ d.result = sym d.ensures.in_bounds.1 in
     let e : v ≡ decimal a.n = d.ensures.digits ∙ digits_decimal a.n d.result n d.ensures.len in record {
       room = omega arith;
-      text = rw c.copy.ensures
+      text = rw c.copy_from_slice.ensures.after
           (byte_behind a.out.now v a.at d.result k a.byte (omega arith)
           ∙ ap (λ (l : List ℕ). take a.at a.out.now ++ (l ++ (a.byte ∷ []))) e);
-      rest = rw c.copy.ensures (byte_rest a.out.now v a.at d.result k a.byte (omega arith));
+      rest = rw c.copy_from_slice.ensures.after (byte_rest a.out.now v a.at d.result k a.byte (omega arith));
     }

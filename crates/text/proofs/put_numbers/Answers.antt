@@ -1,8 +1,8 @@
 -- Each number stands behind what the one before it left.
-use mathlib.Core.Path.{◌∙◌}
+use mathlib.Core.Path.{sym, ◌∙◌}
 use native.Mathlib.Omega.{arith}
 use lib.ListN.{take}
-use Rattle.text.specs.Text.{followed, line_text, space, line_feed}
+use Rattle.text.specs.Text.{line_text}
 use Rattle.text.proofs.Buffers.{four_behind, rest_further}
 use Rattle.text.proofs.put_numbers.Goals as goal
 
@@ -15,8 +15,8 @@ returns c =
     let third = c.put_number-r in
     let fourth = c.put_number in record {
       room = omega arith;
-      text = four_behind (take a.at a.out.now) (followed a.a space) (followed a.b space) (followed a.c space) (followed a.d line_feed)
-          first.ensures.text second.ensures.text third.ensures.text fourth.ensures.text;
+      text = rw (sym c.from.ensures, sym c.from-2.ensures, sym c.from-3.ensures, sym c.from-4.ensures)
+          (four_behind (take a.at a.out.now) _ _ _ _ first.ensures.text second.ensures.text third.ensures.text fourth.ensures.text);
       rest = fourth.ensures.rest
           ∙ rest_further _ _ third.result fourth.result (omega arith) third.ensures.rest
           ∙ rest_further _ _ second.result fourth.result (omega arith) second.ensures.rest

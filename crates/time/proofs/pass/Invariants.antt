@@ -3,8 +3,8 @@ use Rattle.model.specs.Before.{view}
 use Rattle.time.proofs.Passing.{Passing}
 use Rattle.time.proofs.pass.Given as goal
 
-abbrev pub invariant-loop-left : goal.invariant-loop-left
-invariant-loop-left l = Passing (view l.t l.initial.rows) l.n l.u l.rows l.left l.woken l.gap
+abbrev pub invariant-loop-gap : goal.invariant-loop-gap
+invariant-loop-gap l = Passing (view l.t l.initial.rows) l.n l.u l.rows l.left l.woken l.gap
 
-abbrev pub decreases-loop-left : goal.decreases-loop-left
-decreases-loop-left l = l.left
+abbrev pub decreases-loop-gap : goal.decreases-loop-gap
+decreases-loop-gap l = l.left

@@ -30,16 +30,6 @@ pub returns-then-moved : goal.returns-then-moved
 returns-then-moved c =
     let left = c.quantum_left in record { image = chosen_does c.requires.whole c.choose.ensures; quantum = record { fits = omega (arith, left.ensures); at = c.place.ensures ∙ ap place left.ensures } }
 
-pub returns-then-quantum-eq-NEVER : goal.returns-then-quantum-eq-NEVER
-returns-then-quantum-eq-NEVER c =
-    let u = as_before (goal.at.returns-then-quantum-eq-NEVER c).Else-moved in record { image = record { whole = c.requires.whole; view = sym u.chosen }; quantum = none_runs u (omega (arith, c.if-quantum-eq-NEVER.true)) }
-
-pub overflow_sub-result : goal.overflow_sub-result
-overflow_sub-result c = omega (arith, (as_before (goal.at.overflow_sub-result c).Else-moved).before)
-
-pub overflow_sub-result-2 : goal.overflow_sub-result-2
-overflow_sub-result-2 c = omega (arith, (as_before (goal.at.overflow_sub-result-2 c).Else-moved).before)
-
 pub returns : goal.returns
 returns c =
     let u = as_before (goal.at.returns c).Else-moved in record { image = record { whole = c.requires.whole; view = sym u.chosen }; quantum = comes-nearer u (omega (arith, c.if-quantum-eq-NEVER.false)) }

@@ -46,7 +46,7 @@ module _ (c : After-leap_timers-timed) where
 
 -- after the limits
 still : (c : After-fall_limits-limited)
-    → (eqb c.args.quantum c.args.until || c.leap_timers-timed.result.moved) || c.fall_limits-limited.result.moved ≡ false
+    → (eqb c.args.quantum c.args.until || c.leap_timers-timed.result.moved) || c.fall_limits-limited.result.walk.moved ≡ false
     → Unchanged c.args.until c.args.quantum (view c.fall_limits-limited.new.image)
 still c e =
     let late = neither _ _ e in
@@ -60,7 +60,7 @@ leap_timers-timed-requires c =
     let v = view c.args.image.now in
     let gap = c.args.until + 1 in
     let f = c.requires.falls.0 in
-    let e = c.use_quantum.ensures in record { whole = e.whole; ticks_nonzero = (c.requires.falls.1, subst Armed (sym e.view) (quantum-armed gap v f.armed), subst (TimersTo c.args.stop) (sym e.view) (quantum-timers_to c.args.stop gap v c.requires.timers_to.0)) }
+    let e = c.use_quantum.ensures in record { whole = e.whole; ticks_nonzero = (c.requires.falls.1, subst Armed (sym e.view) (quantum-armed gap v f.armed), subst (TimersTo c.args.reach.stop) (sym e.view) (quantum-timers_to c.args.reach.stop gap v c.requires.within.timers)) }
 
 pub fall_limits-limited-requires : goal.fall_limits-limited-requires
 fall_limits-limited-requires c =
@@ -69,7 +69,7 @@ fall_limits-limited-requires c =
       ticks_nonzero = (
         c.requires.falls.1,
         subst Limited (sym (both (goal.at.fall_limits-limited-requires c).After-leap_timers-timed).view) (onward-limited (onward (goal.at.fall_limits-limited-requires c).After-leap_timers-timed) (fallen (goal.at.fall_limits-limited-requires c).After-leap_timers-timed).limited),
-        subst (LimitsFrom c.args.from c.args.end) (sym (both (goal.at.fall_limits-limited-requires c).After-leap_timers-timed).view) (onward-from (onward (goal.at.fall_limits-limited-requires c).After-leap_timers-timed) c.requires.timers_to.1),
+        subst (LimitsFrom c.args.reach.from c.args.reach.end) (sym (both (goal.at.fall_limits-limited-requires c).After-leap_timers-timed).view) (onward-from (onward (goal.at.fall_limits-limited-requires c).After-leap_timers-timed) c.requires.within.limits),
       );
     }
 
@@ -97,9 +97,9 @@ returns c =
         due =
             record {
               fits = rw first (nearer-fits _ _ near.fits walked.nearest.fits);
-              at = c.earlier-due.ensures ∙ ap₂ min near.at walked.nearest.at ∙ nearer-place _ _ near.fits walked.nearest.fits ∙ ap place (sym first);
+              at = c.min-due.ensures ∙ ap₂ min near.at walked.nearest.at ∙ nearer-place _ _ near.fits walked.nearest.fits ∙ ap place (sym first);
             };
         quantum = chosen.quantum;
       };
-      from = subst (LimitsFrom c.fall_limits-limited.result.from c.args.end) (sym chosen.image.view) (onward-from (choose-onward (view c.fall_limits-limited.new.image)) walked.from);
+      from = subst (LimitsFrom c.fall_limits-limited.result.from c.args.reach.end) (sym chosen.image.view) (onward-from (choose-onward (view c.fall_limits-limited.new.image)) walked.from);
     }

@@ -1,7 +1,6 @@
 -- A refusal leaves the image and has no ticks; else its ticks are those asked for. What is told is what the model tells of the image after them.
-use Rattle.std.proofs.Common.{◌≡◌, ℕ, true, false, eqb, sym, ap, ◌∙◌, ap₂, rules}
+use Rattle.std.proofs.Common.{◌≡◌, ℕ, true, false, eqb, sym, ap, ◌∙◌, ap₂}
 use Rattle.sequences.specs.Steps.{wakeups}
-use Rattle.sequences.proofs.Numbers.{bytes_of}
 use Rattle.model.specs.declared.answers.Answer.{Answer}
 use Rattle.model.specs.declared.requests.Request.{Request}
 use Rattle.model.specs.State.{State}
@@ -13,7 +12,7 @@ use Rattle.model.specs.Layout.{view}
 use Rattle.theorems.proofs.Outcomes as outcomes
 use Rattle.theorems.proofs.Outcomes.{whole-outcome}
 use Rattle.theorems.proofs.Spanned.{spanned}
-use Rattle.untimed.proofs.Laid.{view-sound, sound-whole, laid}
+use Rattle.untimed.proofs.Laid.{view-sound, sound-whole}
 use Rattle.timed.proofs.timed.Goals as goal
 
 -- the report of an answer other than 1
@@ -40,7 +39,7 @@ pub next_wake_up-next-requires : goal.next_wake_up-next-requires
 next_wake_up-next-requires c = sound-whole c.args.image.now c.requires.image_value
 
 pub told-requires : goal.told-requires
-told-requires c = (sound-whole c.args.image.now c.requires.image_value).size
+told-requires c = sound-whole c.args.image.now c.requires.image_value
 
 pub returns-then-not-is_accepted : goal.returns-then-not-is_accepted
 returns-then-not-is_accepted c =
@@ -52,11 +51,11 @@ returns-then-not-is_accepted c =
     let given = c.answer-answer.ensures in
     let refused = sym c.is_accepted.ensures ∙ c.if-not-is_accepted.true in
     let whole = whole-outcome v q fine given (unmoved a q v refused) in record {
-      report = c.told.ensures
+      report = c.told.ensures.report
           ∙ ap₂ (λ (w x : ℕ). record { answer = a; chosen = v.chosen; clock = v.clock; wakeups = w; next = x }) (no_ticks a q v refused) c.next_wake_up-next.ensures
           ∙ reported a (wakeups_in (span a q) v) v (outcomes.told v q fine given)
           ∙ ap (λ (o : Outcome). o.report) (sym whole);
-      image = rw whole (laid (sound-whole b c.requires.image_value) (bytes_of b (search rules)));
+      image = rw whole c.told.ensures.laid;
     }
 
 pub returns : goal.returns
@@ -73,10 +72,10 @@ returns c =
     let r = view c.pass-passed.new.image in
     let after = d.image.view ∙ ap (λ (n : ℕ). after_ticks n v) asked ∙ spanned a q v c.requires.call_value in
     let whole = whole-outcome v q fine given after in record {
-      report = c.told-2.ensures
+      report = c.told-2.ensures.report
           ∙ ap₂ (λ (w x : ℕ). record { answer = a; chosen = r.chosen; clock = r.clock; wakeups = w; next = x })
           (d.wakeups ∙ ap (λ (n : ℕ). wakeups_in n v) asked) d.next
           ∙ reported a (wakeups_in (span a q) v) r (outcomes.told v q fine given)
           ∙ ap (λ (o : Outcome). o.report) (sym whole);
-      image = rw whole (laid d.image.whole (bytes_of c.pass-passed.new.image (search rules)));
+      image = rw whole c.told-2.ensures.laid;
     }

@@ -19,7 +19,7 @@ use Rattle.theorems.proofs.Running.{unset}
 use Rattle.fields.specs.Fields.{Alters}
 use Rattle.words.specs.Images.{Off, Does}
 use Rattle.words.proofs.Does.{and_then, same_word, off-after}
-use Rattle.effects.proofs.Standing.{named, stored_does}
+use Rattle.effects.proofs.Standing.{stored_does}
 use Rattle.effects.proofs.threads.create_thread.Goals as goal
 use Rattle.effects.proofs.threads.create_thread.Goals.{Start}
 
@@ -66,7 +66,7 @@ pub overflow_cast-q-2 : goal.overflow_cast-q-2
 overflow_cast-q-2 c = omega (arith, quantum_fits (goal.at.overflow_cast-q-2 c).Start)
 
 pub store-requires : goal.store-requires
-store-requires c = named (off (goal.at.store-requires c).Start).given
+store-requires c = (off (goal.at.store-requires c).Start).given.thread
 
 pub enter_tail-requires : goal.enter_tail-requires
 enter_tail-requires c =

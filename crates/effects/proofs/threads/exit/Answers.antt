@@ -14,7 +14,7 @@ use Rattle.words.specs.Images.{Ready}
 use Rattle.words.proofs.Does.{and_then, same_word, given-still, left-off}
 use Rattle.words.proofs.Known.{ready_on}
 use Rattle.words.proofs.Accepted.{running}
-use Rattle.effects.proofs.Standing.{named, stored_does}
+use Rattle.effects.proofs.Standing.{stored_does}
 use Rattle.effects.proofs.threads.exit.Goals as goal
 use Rattle.effects.proofs.threads.exit.Goals.{Start}
 
@@ -23,7 +23,7 @@ unfolding answers
 ready s e = running e s.requires.whole s.requires.allowed (not-due s.requires.allowed 1 refl)
 
 pub current-p-requires : goal.current-p-requires
-current-p-requires c = named (ready (goal.at.current-p-requires c).Start c.chosen-i.ensures).given
+current-p-requires c = (ready (goal.at.current-p-requires c).Start c.chosen-i.ensures).given.thread
 
 pub leave-requires : goal.leave-requires
 leave-requires c =
@@ -31,15 +31,15 @@ leave-requires c =
 
 pub store-requires : goal.store-requires
 store-requires c =
-    named (given-still c.leave.ensures (ready (goal.at.store-requires c).Start c.chosen-i.ensures).given)
+    (given-still c.leave.ensures (ready (goal.at.store-requires c).Start c.chosen-i.ensures).given).thread
 
 pub returns : goal.returns
 unfolding exit_effect
 returns c =
     let v = view c.args.image.now in
     let i = c.chosen-i.result in
-    let below : c.absent_thread-x.result.current < 8 = rw c.absent_thread-x.ensures (omega arith) in
+    let below : c.absent_thread.result.current < 8 = rw c.absent_thread.ensures (omega arith) in
     let off = left-off (ready (goal.at.returns c).Start c.chosen-i.ensures).given c.leave.ensures in
-    same_word (and_then c.leave.ensures (stored_does c.absent_thread-x.result off below c.store.ensures)) (exit_effect c.args.q)
-    (ap (λ (t : Thread). alter_thread i (λ _. t) (leave i v)) c.absent_thread-x.ensures
+    same_word (and_then c.leave.ensures (stored_does c.absent_thread.result off below c.store.ensures)) (exit_effect c.args.q)
+    (ap (λ (t : Thread). alter_thread i (λ _. t) (leave i v)) c.absent_thread.ensures
     ∙ ap (λ (k : ℕ). alter_thread k (λ _. absent_thread) (leave k v)) c.chosen-i.ensures)

@@ -15,7 +15,6 @@ use Rattle.model.specs.Layout.{view}
 use Rattle.theorems.proofs.Allowing.{not-due, thread-named}
 use Rattle.words.specs.Images.{Given}
 use Rattle.words.proofs.Does.{rewritten_does, and_then, same_word, given-still}
-use Rattle.effects.proofs.Standing.{named}
 use Rattle.effects.proofs.threads.set_priority.Goals as goal
 use Rattle.effects.proofs.threads.set_priority.Goals.{Start}
 
@@ -44,10 +43,10 @@ pub overflow_cast-base : goal.overflow_cast-base
 overflow_cast-base c = omega (arith, base-below (goal.at.overflow_cast-base c).Start)
 
 pub new_current-p-requires : goal.new_current-p-requires
-new_current-p-requires c = named (given (goal.at.new_current-p-requires c).Start)
+new_current-p-requires c = (given (goal.at.new_current-p-requires c).Start).thread
 
 pub set_base-requires : goal.set_base-requires
-set_base-requires c = named (given (goal.at.set_base-requires c).Start)
+set_base-requires c = (given (goal.at.set_base-requires c).Start).thread
 
 pub take_priority-requires : goal.take_priority-requires
 take_priority-requires c =

@@ -30,7 +30,7 @@ pub overflow_cast-q-3 : goal.overflow_cast-q-3
 overflow_cast-q-3 c = omega (arith, quantum_fits (goal.at.overflow_cast-q-3 c).Start)
 
 pub set_quantum-requires : goal.set_quantum-requires
-set_quantum-requires c = record { size = c.requires.whole.size; there = below (goal.at.set_quantum-requires c).Start }
+set_quantum-requires c = below (goal.at.set_quantum-requires c).Start
 
 pub returns : goal.returns
 unfolding set_quantum_effect

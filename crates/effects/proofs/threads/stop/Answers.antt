@@ -8,7 +8,6 @@ use Rattle.theorems.proofs.Allowing.{not-due, thread-named}
 use Rattle.words.specs.Images.{Ready}
 use Rattle.words.proofs.Does.{and_then, left-off}
 use Rattle.words.proofs.Known.{ready_on}
-use Rattle.effects.proofs.Standing.{named}
 use Rattle.effects.proofs.threads.stop.Goals as goal
 use Rattle.effects.proofs.threads.stop.Goals.{Start}
 
@@ -21,7 +20,7 @@ ready s =
     }
 
 pub current-p-requires : goal.current-p-requires
-current-p-requires c = named (ready (goal.at.current-p-requires c).Start).given
+current-p-requires c = (ready (goal.at.current-p-requires c).Start).given.thread
 
 pub leave-requires : goal.leave-requires
 leave-requires c = ready_on c.current-p.ensures (ready (goal.at.leave-requires c).Start)

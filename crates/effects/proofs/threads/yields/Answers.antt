@@ -10,7 +10,6 @@ use Rattle.words.specs.Images.{Ready}
 use Rattle.words.proofs.Does.{same_word}
 use Rattle.words.proofs.Known.{ready_on}
 use Rattle.words.proofs.Accepted.{running}
-use Rattle.effects.proofs.Standing.{named}
 use Rattle.effects.proofs.threads.yields.Goals as goal
 use Rattle.effects.proofs.threads.yields.Goals.{Start}
 
@@ -19,7 +18,7 @@ unfolding answers
 ready s e = running e s.requires.whole s.requires.allowed (not-due s.requires.allowed 1 refl)
 
 pub current-p-requires : goal.current-p-requires
-current-p-requires c = named (ready (goal.at.current-p-requires c).Start c.chosen-i.ensures).given
+current-p-requires c = (ready (goal.at.current-p-requires c).Start c.chosen-i.ensures).given.thread
 
 pub become_ready-requires : goal.become_ready-requires
 become_ready-requires c =

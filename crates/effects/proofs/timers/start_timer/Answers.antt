@@ -81,11 +81,11 @@ overflow_cast-x-4 c = let h = (action c.requires.allowed).1 in omega arith
 
 pub count-requires : goal.count-requires
 count-requires c =
-    record { size = c.requires.whole.size; there = below c.requires.allowed }
+    below c.requires.allowed
 
 pub store-requires : goal.store-requires
 store-requires c =
-    record { size = c.requires.whole.size; there = below c.requires.allowed }
+    below c.requires.allowed
 
 pub returns : goal.returns
 returns c =

@@ -14,7 +14,7 @@ unfolding answers
 below s = leb-false 8 s.args.q.id (not-due s.requires.allowed 0 refl)
 
 pub set_left-requires : goal.set_left-requires
-set_left-requires c = record { size = c.requires.whole.size; there = below (goal.at.set_left-requires c).Start }
+set_left-requires c = below (goal.at.set_left-requires c).Start
 
 pub returns : goal.returns
 unfolding stop_timer_effect

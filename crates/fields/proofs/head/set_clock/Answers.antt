@@ -6,4 +6,4 @@ use Rattle.fields.proofs.head.set_clock.Goals as goal
 
 pub returns : goal.returns
 returns c =
-    head_written c.args.image.now 0 c.args.x (with_clock c.args.x) c.requires (lit< tt) (lit< tt) c.put_u32.ensures refl
+    head_written c.args.image.now 0 c.args.x (with_clock c.args.x) c.told-image (lit< tt) (lit< tt) c.put_u32.ensures refl

@@ -1,8 +1,8 @@
 use mathlib.Core.Path.{refl}
 use lib.Dec.{lit<}
 use Rattle.model.specs.declared.tables.Mutex.{Mutex}
-use Rattle.fields.proofs.Parts.{part_read, mutexes-part}
+use Rattle.fields.proofs.Parts.{part_read, mutexes-part, named}
 use Rattle.fields.proofs.mutexes.created.Goals as goal
 
 pub returns : goal.returns
-returns c = part_read mutexes-part c.requires 0 (λ (x : Mutex). x.created) (lit< tt) (λ n. refl)
+returns c = part_read mutexes-part (named c.told-image c.requires) 0 (λ (x : Mutex). x.created) (lit< tt) (λ n. refl)

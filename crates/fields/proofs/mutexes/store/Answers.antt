@@ -1,6 +1,6 @@
-use Rattle.fields.proofs.Parts.{part_stored, mutexes-part}
+use Rattle.fields.proofs.Parts.{part_stored, mutexes-part, named}
 use Rattle.fields.proofs.mutexes.store.Goals as goal
 
 pub returns : goal.returns
 returns c =
-    part_stored mutexes-part c.requires c.args.x c.bytes_of-bytes.ensures c.copy_at.ensures
+    part_stored mutexes-part (named c.told-image c.requires) c.args.x c.mutex.ensures c.copy_at.ensures

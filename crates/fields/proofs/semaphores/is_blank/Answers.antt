@@ -12,7 +12,7 @@ use Rattle.sequences.specs.Records.{start}
 use Rattle.model.specs.declared.tables.Semaphore.{Semaphore}
 use Rattle.model.specs.Layout.{semaphores_at}
 use Rattle.fields.specs.Fields.{zero_semaphore}
-use Rattle.fields.proofs.Parts.{part_read, semaphores-part, both_zero, zero_alike}
+use Rattle.fields.proofs.Parts.{part_read, semaphores-part, both_zero, zero_alike, named}
 use Rattle.fields.proofs.semaphores.is_blank.Goals as goal
 
 all_zero : (k : ℕ) (s : List ℕ) (x : Semaphore) (n : ℕ) → n ≡ four_at k s → get_or s k 0 ≡ x.created → two_at (k + 1) s ≡ x.count
@@ -27,9 +27,9 @@ all_zero k s x n e p q r =
 
 pub returns : goal.returns
 returns c =
-    let named = c.requires in
+    let there = named c.told-image c.requires in
     let a = c.args in
     all_zero (start semaphores_at a.o) a.image.now _ c.u32_at.result c.u32_at.ensures
-    (part_read semaphores-part named 0 (λ (x : Semaphore). x.created) (lit< tt) (λ n. refl))
-    (part_read semaphores-part named 1 (λ (x : Semaphore). x.count) (lit< tt) (λ n. refl))
-    (part_read semaphores-part named 2 (λ (x : Semaphore). x.maximum) (lit< tt) (λ n. refl))
+    (part_read semaphores-part there 0 (λ (x : Semaphore). x.created) (lit< tt) (λ n. refl))
+    (part_read semaphores-part there 1 (λ (x : Semaphore). x.count) (lit< tt) (λ n. refl))
+    (part_read semaphores-part there 2 (λ (x : Semaphore). x.maximum) (lit< tt) (λ n. refl))

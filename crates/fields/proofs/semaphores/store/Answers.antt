@@ -1,6 +1,6 @@
-use Rattle.fields.proofs.Parts.{part_stored, semaphores-part}
+use Rattle.fields.proofs.Parts.{part_stored, semaphores-part, named}
 use Rattle.fields.proofs.semaphores.store.Goals as goal
 
 pub returns : goal.returns
 returns c =
-    part_stored semaphores-part c.requires c.args.x c.bytes_of-bytes.ensures c.copy_at.ensures
+    part_stored semaphores-part (named c.told-image c.requires) c.args.x c.semaphore.ensures c.copy_at.ensures

@@ -10,7 +10,7 @@ use Rattle.sequences.specs.Bytes.{two_at, four_at}
 use Rattle.sequences.specs.Records.{start}
 use Rattle.model.specs.declared.tables.Thread.{Thread}
 use Rattle.model.specs.Layout.{threads_at}
-use Rattle.fields.proofs.Parts.{part_read, threads-part}
+use Rattle.fields.proofs.Parts.{part_read, threads-part, named}
 use Rattle.fields.proofs.threads.ending.Goals as goal
 
 side_by_side : (k : ℕ) (s : List ℕ) {x y z : ℕ} → get_or s (k + 11) 0 ≡ x → two_at (k + 12) s ≡ y → get_or s (k + 14) 0 ≡ z
@@ -21,10 +21,10 @@ side_by_side k s {y = y} p q r =
 
 pub returns : goal.returns
 returns c =
-    let named = c.requires in
+    let there = named c.told-image c.requires in
     let a = c.args in
     c.u32_at.ensures
     ∙ side_by_side (start threads_at a.i) a.image.now
-    (part_read threads-part named 6 (λ (x : Thread). x.result) (lit< tt) (λ n. refl))
-    (part_read threads-part named 7 (λ (x : Thread). x.mask) (lit< tt) (λ n. refl))
-    (part_read threads-part named 8 (λ (x : Thread). x.mode) (lit< tt) (λ n. refl))
+    (part_read threads-part there 6 (λ (x : Thread). x.result) (lit< tt) (λ n. refl))
+    (part_read threads-part there 7 (λ (x : Thread). x.mask) (lit< tt) (λ n. refl))
+    (part_read threads-part there 8 (λ (x : Thread). x.mode) (lit< tt) (λ n. refl))

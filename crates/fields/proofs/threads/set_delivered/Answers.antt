@@ -1,10 +1,10 @@
 use mathlib.Core.Path.{refl}
 use lib.Dec.{lit<}
 use Rattle.model.specs.Parts.{with_delivered}
-use Rattle.fields.proofs.Parts.{part_written, threads-part}
+use Rattle.fields.proofs.Parts.{part_written, threads-part, named}
 use Rattle.fields.proofs.threads.set_delivered.Goals as goal
 
 pub returns : goal.returns
 returns c =
     let x = c.args.x in
-    part_written threads-part c.requires 9 x (with_delivered x) (lit< tt) c.put_u16.ensures (λ n. refl)
+    part_written threads-part (named c.told-image c.requires) 9 x (with_delivered x) (lit< tt) c.put_u16.ensures (λ n. refl)

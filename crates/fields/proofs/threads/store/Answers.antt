@@ -1,6 +1,6 @@
-use Rattle.fields.proofs.Parts.{part_stored, threads-part}
+use Rattle.fields.proofs.Parts.{part_stored, threads-part, named}
 use Rattle.fields.proofs.threads.store.Goals as goal
 
 pub returns : goal.returns
 returns c =
-    part_stored threads-part c.requires c.args.t c.bytes_of-bytes.ensures c.copy_at.ensures
+    part_stored threads-part (named c.told-image c.requires) c.args.t c.thread.ensures c.copy_at.ensures

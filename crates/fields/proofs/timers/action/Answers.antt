@@ -10,7 +10,7 @@ use Rattle.sequences.specs.Bytes.{two_at, four_at}
 use Rattle.sequences.specs.Records.{start}
 use Rattle.model.specs.declared.tables.Timer.{Timer}
 use Rattle.model.specs.Layout.{timers_at}
-use Rattle.fields.proofs.Parts.{part_read, timers-part}
+use Rattle.fields.proofs.Parts.{part_read, timers-part, named}
 use Rattle.fields.proofs.timers.action.Goals as goal
 
 last-five : (k : ℕ) (s : List ℕ) → ((j : ℕ) → get_or s j 0 < 256) → {x y z u : ℕ} → get_or s (k + 8) 0 ≡ x → get_or s (k + 9) 0 ≡ y
@@ -23,11 +23,11 @@ last-five k s o {u = u} p q r t =
 
 pub returns : goal.returns
 returns c =
-    let named = c.requires in
+    let there = named c.told-image c.requires in
     let a = c.args in
     ap (λ (n : ℕ). n / 16777216) c.u64_at.ensures
-    ∙ last-five (start timers_at a.o) a.image.now (λ j. (c.type_inv.image j).fits)
-    (part_read timers-part named 2 (λ (x : Timer). x.repeat) (lit< tt) (λ n. refl))
-    (part_read timers-part named 3 (λ (x : Timer). x.kind) (lit< tt) (λ n. refl))
-    (part_read timers-part named 4 (λ (x : Timer). x.object) (lit< tt) (λ n. refl))
-    (part_read timers-part named 5 (λ (x : Timer). x.mask) (lit< tt) (λ n. refl))
+    ∙ last-five (start timers_at a.o) a.image.now c.fits-image
+    (part_read timers-part there 2 (λ (x : Timer). x.repeat) (lit< tt) (λ n. refl))
+    (part_read timers-part there 3 (λ (x : Timer). x.kind) (lit< tt) (λ n. refl))
+    (part_read timers-part there 4 (λ (x : Timer). x.object) (lit< tt) (λ n. refl))
+    (part_read timers-part there 5 (λ (x : Timer). x.mask) (lit< tt) (λ n. refl))

@@ -12,7 +12,7 @@ use Rattle.sequences.specs.Records.{start}
 use Rattle.model.specs.declared.tables.Timer.{Timer}
 use Rattle.model.specs.Sound.{zero_timer}
 use Rattle.model.specs.Layout.{timers_at}
-use Rattle.fields.proofs.Parts.{part_read, timers-part, both_zero, zero_alike}
+use Rattle.fields.proofs.Parts.{part_read, timers-part, both_zero, zero_alike, named}
 use Rattle.fields.proofs.timers.is_blank.Goals as goal
 
 abbrev sum : Timer → ℕ
@@ -76,13 +76,13 @@ module _ (k : ℕ) (s : List ℕ) (t : Timer) (m n : ℕ) (a : m ≡ four_at k s
 
 pub returns : goal.returns
 returns c =
-    let named = c.requires in
+    let there = named c.told-image c.requires in
     let a = c.args in
     all_zero (start timers_at a.o) a.image.now _ c.u64_at-2.result c.u64_at.result c.u64_at-2.ensures c.u64_at.ensures
-    (part_read timers-part named 0 (λ (x : Timer). x.period) (lit< tt) (λ n. refl))
-    (part_read timers-part named 1 (λ (x : Timer). x.left) (lit< tt) (λ n. refl))
-    (part_read timers-part named 2 (λ (x : Timer). x.repeat) (lit< tt) (λ n. refl))
-    (part_read timers-part named 3 (λ (x : Timer). x.kind) (lit< tt) (λ n. refl))
-    (part_read timers-part named 4 (λ (x : Timer). x.object) (lit< tt) (λ n. refl))
-    (part_read timers-part named 5 (λ (x : Timer). x.mask) (lit< tt) (λ n. refl))
-    (part_read timers-part named 6 (λ (x : Timer). x.count) (lit< tt) (λ n. refl))
+    (part_read timers-part there 0 (λ (x : Timer). x.period) (lit< tt) (λ n. refl))
+    (part_read timers-part there 1 (λ (x : Timer). x.left) (lit< tt) (λ n. refl))
+    (part_read timers-part there 2 (λ (x : Timer). x.repeat) (lit< tt) (λ n. refl))
+    (part_read timers-part there 3 (λ (x : Timer). x.kind) (lit< tt) (λ n. refl))
+    (part_read timers-part there 4 (λ (x : Timer). x.object) (lit< tt) (λ n. refl))
+    (part_read timers-part there 5 (λ (x : Timer). x.mask) (lit< tt) (λ n. refl))
+    (part_read timers-part there 6 (λ (x : Timer). x.count) (lit< tt) (λ n. refl))

@@ -1,7 +1,7 @@
--- `reading::read_rows` meets its contract: the part that the definition names is read.
+-- The part that the definition names is read.
 use Rattle.image.specs.Image.{rows_of}
 use Rattle.image.proofs.reading.read_rows.Goals as goal
 
 pub returns : goal.returns
 unfolding rows_of
-returns c = c.ready_rows.ensures
+returns c = c.read_all.ensures

@@ -6,5 +6,5 @@ use Rattle.image.proofs.writing.put_objects.Goals as goal
 
 pub returns : goal.returns
 returns c =
-    all-put 0 c.args.dst.now ((40, c.put_semaphores.new.dst) ∷ (12, c.put_mutexes.new.dst) ∷ (12, c.put_flag_objects.new.dst) ∷ []) (search rules) c.requires
-    (λ i. c.put_semaphores.ensures i ∷ c.put_mutexes.ensures i ∷ c.put_flag_objects.ensures i ∷ [])
+    all-put 0 c.args.dst.now ((40, c.write_all.new.bytes) ∷ (12, c.write_all-2.new.bytes) ∷ (12, c.write_all-3.new.bytes) ∷ []) (search rules) c.requires
+    (λ i. c.write_all.ensures i ∷ c.write_all-2.ensures i ∷ c.write_all-3.ensures i ∷ [])

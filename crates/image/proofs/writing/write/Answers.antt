@@ -27,11 +27,11 @@ groups-joined t rows = simp (append_assoc, append-nil)
 pub returns : goal.returns
 returns c =
     all-put 0 c.args.image.now (
-    (6, c.copy.new.dst)
-    ∷ (272, c.put_threads.new.dst)
+    (6, c.copy_from_slice.new.self)
+    ∷ (272, c.write_all.new.bytes)
     ∷ (64, c.put_objects.new.dst)
-    ∷ (136, c.put_timers.new.dst)
+    ∷ (136, c.write_all-2.new.bytes)
     ∷ (442, c.put_lists.new.dst)
-    ∷ []) {qs = groups c.args.t c.args.rows} (search rules) c.requires
-    (λ i. (c.copy.ensures ∙ c.head-first.ensures) i ∷ c.put_threads.ensures i ∷ c.put_objects.ensures i ∷ c.put_timers.ensures i ∷ c.put_lists.ensures i ∷ [])
+    ∷ []) {qs = groups c.args.t c.args.rows} (search rules) c.told-image
+    (λ i. (c.copy_from_slice.ensures.after ∙ c.head.ensures) i ∷ c.write_all.ensures i ∷ c.put_objects.ensures i ∷ c.write_all-2.ensures i ∷ c.put_lists.ensures i ∷ [])
     ∙ groups-joined c.args.t c.args.rows

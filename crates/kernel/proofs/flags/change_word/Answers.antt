@@ -1,5 +1,5 @@
 use mathlib.Core.Path.{◌≡◌, refl, ◌∙◌}
-use Prim.Native.Nat.{ℕ}
+use Prim.Native.Nat.{ℕ, ◌<◌}
 use native.Mathlib.Omega.{arith}
 use lib.ListN.{get_or}
 use Rattle.model.specs.declared.tables.Table.{Table}
@@ -13,10 +13,10 @@ use Rattle.table.specs.Orderly.{Meets, Does}
 use Rattle.table.specs.Orderly.{Whole}
 use Rattle.table.proofs.Views.{does, list-view}
 use Rattle.table.proofs.Rooms.{whole_then}
-use Rattle.table.proofs.StoredLists.{listed_below}
 use Rattle.table.proofs.Rewriting.{rewritten_flags}
-use Rattle.kernel.proofs.MeetingLaws.{waking_next, waking_done}
+use Rattle.kernel.proofs.MeetingLaws.{listed-thread, waking_next, waking_done}
 use Rattle.kernel.proofs.flags.change_word.Goals as goal
+use Rattle.kernel.proofs.flags.change_word.Goals.{Start}
 
 module _ {t u : Table} {rows : layout.Rows} (w : Whole t rows) (o word : ℕ) (m : Meets t (alter_flags o (λ _. with_word word (get_or t.flags o absent_flags))) u) where
   changed : Does t rows (alter_flags o (with_word word)) u rows
@@ -31,28 +31,27 @@ module _ {t u : Table} {rows : layout.Rows} (w : Whole t rows) (o word : ℕ) (m
   unfolding change_word
   changed-met = rw (list-view t rows (flags_list o), changed.view)
 
-pub loop-k-init : goal.loop-k-init
-loop-k-init c =
-    record { whole = changed-whole c.requires.whole c.args.o c.args.word c.with_flags-u.ensures; rest = refl }
+-- where the flags' list stands
+within : (s : Start) → flags_list s.args.o < 18
+within s = omega (arith, s.requires.o_bound)
 
-pub bounds-ids-k : goal.bounds-ids-k
-bounds-ids-k c =
-    omega (arith, c.loop-k-test.true, (c.requires.whole.order.table.lists (flags_list c.args.o) (omega (arith, c.requires.o_bound))).room)
+pub loop-i-init : goal.loop-i-init
+loop-i-init c =
+    record { whole = changed-whole c.requires.whole c.args.o c.args.word c.with_flags-u.ensures; rest = refl }
 
 pub wake_met-u-requires : goal.wake_met-u-requires
 wake_met-u-requires c =
-    let l = c.loop-k in
-    record { whole = l.invariant.whole; thread = listed_below c.requires.whole (flags_list c.args.o) (omega (arith, c.requires.o_bound)) l.k c.loop-k-test.true }
+    let l = c.loop-i in
+    record { whole = l.invariant.whole; thread = listed-thread c.requires.whole (flags_list c.args.o) (within (goal.at.wake_met-u-requires c).Start) l.i-index c.loop-i-test.true }
 
-pub loop-k-preserved : goal.loop-k-preserved
-loop-k-preserved c =
-    let l = c.loop-k in
-    waking_next c.requires.whole (flags_list c.args.o) (omega (arith, c.requires.o_bound)) l.invariant c.loop-k-test.true c.wake_met-u.ensures
+pub loop-i-preserved : goal.loop-i-preserved
+loop-i-preserved c =
+    waking_next c.requires.whole (flags_list c.args.o) (within (goal.at.loop-i-preserved c).Start) c.loop-i.invariant c.loop-i-test.true c.wake_met-u.ensures
 
 pub returns : goal.returns
 returns c =
-    let l = c.loop-k in
-    let done = waking_done c.requires.whole (flags_list c.args.o) (omega (arith, c.requires.o_bound)) l.invariant c.loop-k-test.false in
+    let l = c.loop-i in
+    let done = waking_done c.requires.whole (flags_list c.args.o) (within (goal.at.returns c).Start) l.invariant c.loop-i-test.false in
     record {
       order = l.invariant.whole.order;
       view = done ∙ changed-met c.requires.whole c.args.o c.args.word c.with_flags-u.ensures;

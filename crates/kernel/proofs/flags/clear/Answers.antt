@@ -3,7 +3,6 @@ use mathlib.Core.Path.{refl}
 use Prim.Native.Nat.{◌<◌, ◌≤◌}
 use native.Mathlib.Omega.{arith}
 use borrow.Author.Tests.{not-false}
-use lib.Bits.{and_le_l}
 use Rattle.sequences.proofs.Tests.{left}
 use Rattle.model.specs.Ranges.{is_positive_16}
 use Rattle.model.specs.Calls.{answers, unused_bcd}
@@ -29,9 +28,6 @@ overflow_cast-mask c = let h = mask_fits (goal.at.overflow_cast-mask c).Start in
 
 pub bounds-t-o : goal.bounds-t-o
 bounds-t-o c = below (goal.at.bounds-t-o c).Start
-
-pub overflow_sub-x : goal.overflow_sub-x
-overflow_sub-x c = and_le_l _ _
 
 pub change_word-requires : goal.change_word-requires
 change_word-requires c = record { whole = whole c.requires; o_bound = below (goal.at.change_word-requires c).Start }

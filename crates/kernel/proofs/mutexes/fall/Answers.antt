@@ -7,9 +7,6 @@ use Rattle.model.specs.Before.{view}
 use Rattle.table.proofs.Views.{same_word}
 use Rattle.kernel.proofs.mutexes.fall.Goals as goal
 
-pub take_priority-requires : goal.take_priority-requires
-take_priority-requires c = record { given = c.requires.given; p_bound = rw c.thread-x.ensures c.requires.i_bound }
-
 pub returns : goal.returns
 unfolding fall view
 returns c =

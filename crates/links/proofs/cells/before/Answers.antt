@@ -1,31 +1,24 @@
 -- The other half's link where there is one, else the list that i is first on.
-use Prim.Native.Nat.{ℕ, ◌+◌, ◌≤◌}
-use mathlib.Core.List.{List}
+use mathlib.Core.Path.{sym, ◌∙◌}
+use Prim.Native.Nat.{◌+◌}
 use native.Mathlib.Omega.{arith}
-use lib.Dec.{eqb}
-use lib.ListN.{get_or, take, drop, length-take}
-use Rattle.sequences.proofs.Searches.{first_at-most}
+use lib.ListN.{get_or}
+use Rattle.std.specs.Prelude.{Some, None}
 use Rattle.links.specs.Cells.{first_with}
-use Rattle.links.proofs.Neighbours.{cell-there, cell-none}
+use Rattle.links.proofs.Neighbours.{cell-none}
+use Rattle.links.proofs.Positions.{first_told}
 use Rattle.links.proofs.cells.before.Goals as goal
 
-most : (m from x : ℕ) (s : List ℕ) → first_with m from x s ≤ m
-most m from x s = omega (arith, first_at-most (λ y. eqb y x) (take m (drop from s)), length-take m (drop from s))
-
-pub returns-then-link-ne0 : goal.returns-then-link-ne0
-returns-then-link-ne0 c =
+pub returns-in_err-j : goal.returns-in_err-j
+returns-in_err-j g c =
     let a = c.args in
-    let s = a.links.now in
-    rw c.id_of.ensures (cell-there (a.n + first_with a.m (a.here + a.n) (a.i + 1) s) (get_or s (a.there + a.i) 0) c.if-link-ne0.true)
-
-pub overflow_add-result : goal.overflow_add-result
-overflow_add-result c =
-    let a = c.args in
-    omega (arith, c.first_with.ensures, most a.m (a.here + a.n) (a.i + 1) a.links.now)
+    let t = first_told g.row.M (a.here + g.row.N) (a.i + 1) a.links.now None (omega arith) (sym c.in_err-j.was ∙ c.first_with.ensures) in
+    let e = cell-none (g.row.N + first_with g.row.M (a.here + g.row.N) (a.i + 1) a.links.now) (get_or a.links.now (a.there + a.i) 0) c.if-link-ne0.false in
+    rw c.from_residual.ensures (omega (arith, e, t))
 
 pub returns : goal.returns
-returns c =
+returns g c =
     let a = c.args in
-    let s = a.links.now in
-    rw c.first_with.ensures
-    (cell-none (a.n + first_with a.m (a.here + a.n) (a.i + 1) s) (get_or s (a.there + a.i) 0) c.if-link-ne0.false)
+    let t = first_told g.row.M (a.here + g.row.N) (a.i + 1) a.links.now (Some c.in_ok-j.j) (omega arith) (sym c.in_ok-j.was ∙ c.first_with.ensures) in
+    let e = cell-none (g.row.N + first_with g.row.M (a.here + g.row.N) (a.i + 1) a.links.now) (get_or a.links.now (a.there + a.i) 0) c.if-link-ne0.false in
+    (omega (arith, e, t.0), omega (arith, t.1))

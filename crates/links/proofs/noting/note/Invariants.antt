@@ -1,11 +1,8 @@
 -- After j turns the first j lists have been followed.
-use Prim.Native.Nat.{◌+◌, ◌-◌}
+use Prim.Native.Nat.{◌+◌}
 use Rattle.sequences.specs.Bytes.{part}
 use Rattle.links.specs.Noted.{Through}
 use Rattle.links.proofs.noting.note.Given as goal
 
 abbrev pub invariant-loop-j : goal.invariant-loop-j
-invariant-loop-j l = Through l.n l.m l.j (part l.at (l.n + l.m + (l.n + l.m)) l.bytes) l.marks
-
-abbrev pub decreases-loop-j : goal.decreases-loop-j
-decreases-loop-j l = l.m - l.j
+invariant-loop-j g l = Through g.row.N g.row.M l.j (part l.at (g.row.N + g.row.M + (g.row.N + g.row.M)) l.bytes) l.marks

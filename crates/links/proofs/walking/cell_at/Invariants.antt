@@ -1,10 +1,6 @@
--- h ids lead up to the cell reached after h turns.
-use Prim.Native.Nat.{◌≤◌, ◌-◌}
+-- As many ids lead up to the cell reached as turns were made.
 use Rattle.links.specs.Walks.{Underway}
 use Rattle.links.proofs.walking.cell_at.Given as goal
 
-abbrev pub invariant-loop-h : goal.invariant-loop-h
-invariant-loop-h l = (l.h ≤ l.k) × Underway l.n l.m l.j l.links l.h l.y
-
-abbrev pub decreases-loop-h : goal.decreases-loop-h
-decreases-loop-h l = l.k - l.h
+abbrev pub invariant-loop : goal.invariant-loop
+invariant-loop g l = Underway g.row.N g.row.M l.j l.links l.counter l.y

@@ -1,35 +1,20 @@
-use Prim.Native.Nat.{◌+◌, ◌-◌, ◌≤◌, ◌<◌}
-use mathlib.Core.Path.{◌≡◌, sym, ◌∙◌}
+-- A position among the first n is the first there.
+use mathlib.Core.Path.{◌≡◌, ◌∙◌}
 use native.Mathlib.Omega.{arith}
 use borrow.Author.Rules.{rules}
-use lib.ListN.{length, take, drop}
-use lib.Seq.{length-take-le, get_or-take}
-use borrow.Author.Tests.{eq-eqb, ne_eqb}
+use borrow.Author.Tests.{tests}
 use lib.Dec.{eqb}
-use Rattle.sequences.specs.Lists.{first_at}
-use Rattle.sequences.proofs.Searches.{first_step, first_hit, first-end}
+use lib.ListN.{take}
+use Rattle.std.specs.List.{position}
+use Rattle.std.proofs.lemmas.Iterator.{YieldsList-from_slice}
+use Rattle.std.proofs.lemmas.Iterator.Search.{position_from_yields_List}
+use Rattle.rows.proofs.Positions.{position_first}
 use Rattle.rows.proofs.row.find.Goals as goal
-
-pub returns-then-row-k : goal.returns-then-row-k
-returns-then-row-k c =
-    let a = c.args in
-    let k = c.loop-k.k in
-    let e : length (take a.n a.row) ≡ a.n = length-take-le a.n a.row (omega arith) in
-    let h : k < a.n = omega arith in
-    sym (c.loop-k.invariant.1 ∙ first_hit (λ y. eqb y a.x) 0 (take a.n a.row) k (omega arith) (rw get_or-take (eq-eqb _ _ c.if-row-k.true)))
-
-pub loop-k-preserved : goal.loop-k-preserved
-loop-k-preserved c =
-    let a = c.args in
-    let k = c.loop-k.k in
-    let e : length (take a.n a.row) ≡ a.n = length-take-le a.n a.row (omega arith) in
-    let h : k < a.n = omega arith in (
-      omega arith,
-      c.loop-k.invariant.1 ∙ first_step (λ y. eqb y a.x) 0 (take a.n a.row) k (omega arith) (rw get_or-take (ne_eqb _ _ c.if-row-k.false)),
-    )
 
 pub returns : goal.returns
 returns c =
     let a = c.args in
-    let e : length (take a.n a.row) ≡ c.loop-k.k = length-take-le a.n a.row (omega arith) ∙ omega arith in
-    sym (c.loop-k.invariant.1 ∙ first-end (λ y. eqb y a.x) (take a.n a.row) c.loop-k.k (omega arith))
+    let all = take a.n a.row in
+    let e : c.position.result ≡ position (λ y. eqb y a.x) all =
+    position_from_yields_List (λ y. eqb y a.x) _ _ c.position.result c.position.ensures.ran (YieldsList-from_slice all cc) (λ x b q k. search (rules, tests)) in
+    c.unwrap_or.ensures ∙ position_first (λ y. eqb y a.x) a.n a.row c.position.result (omega arith) e

@@ -1,5 +1,4 @@
 -- The part from k on copied one place on, and x at k.
-use borrow.Author.Rules.{rules}
 use Rattle.rows.proofs.Rows.{inserted}
 use Rattle.rows.proofs.row.insert.Goals as goal
 
@@ -7,4 +6,4 @@ pub returns : goal.returns
 returns c =
     let a = c.args in
     let p = c.requires in
-    rw c.copied-grown.ensures (inserted p.row a.k a.x p.n_bound.0 p.n_bound.1)
+    rw c.copy_within.ensures.after (inserted p.row a.k a.x p.n_bound.0 p.n_bound.1)

@@ -1,5 +1,4 @@
 -- One store behind the last.
-use borrow.Author.Rules.{rules}
 use Rattle.rows.proofs.Rows.{pushed}
 use Rattle.rows.proofs.row.push.Goals as goal
 

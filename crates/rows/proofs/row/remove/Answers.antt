@@ -1,5 +1,4 @@
 -- The part past k copied to k, and a zero at the last place.
-use borrow.Author.Rules.{rules}
 use Rattle.rows.proofs.Rows.{removed}
 use Rattle.rows.proofs.row.remove.Goals as goal
 
@@ -7,4 +6,4 @@ pub returns : goal.returns
 returns c =
     let a = c.args in
     let p = c.requires in
-    rw c.copied-shrunk.ensures (removed p.row a.k p.k_lt_n)
+    rw c.copy_within.ensures.after (removed p.row a.k p.k_lt_n)

@@ -1,4 +1,4 @@
-use mathlib.Core.Path.{◌≡◌, refl, sym, ◌∙◌}
+use mathlib.Core.Path.{◌≡◌, refl, ◌∙◌}
 use mathlib.Core.List.{List, []}
 use Prim.Native.Nat.{ℕ, ◌<◌}
 use native.Mathlib.Omega.{arith}
@@ -33,12 +33,6 @@ module _ {b u : List ℕ} (w : Whole b) (o word : ℕ) (a : Alters b (alter_flag
   unfolding change_word
   changed = rw a.view
 
-pub set_word-requires : goal.set_word-requires
-set_word-requires c = record { size = c.requires.whole.size; there = c.requires.o_bound }
-
-pub first_of-link-requires : goal.first_of-link-requires
-first_of-link-requires c = record { sized = c.set_word.ensures.size; j_bound = omega (arith, c.requires.o_bound) }
-
 pub loop-link-init : goal.loop-link-init
 loop-link-init c =
     set_out c.requires.whole c.args.o c.args.word c.set_word.ensures c.requires.o_bound c.first_of-link.ensures
@@ -64,9 +58,6 @@ loop-link-smaller c =
 pub loop-link-preserved : goal.loop-link-preserved
 loop-link-preserved c =
     waking_next c.loop-link.invariant c.loop-link-test.true c.wake_met.ensures
-
-pub shape_of-image : goal.shape_of-image
-shape_of-image c = c.loop-link.invariant.whole.size ∙ sym c.requires.whole.size
 
 pub returns : goal.returns
 returns c =

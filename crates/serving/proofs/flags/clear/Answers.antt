@@ -38,7 +38,7 @@ pub overflow_cast-mask : goal.overflow_cast-mask
 overflow_cast-mask c = let h = mask_fits (goal.at.overflow_cast-mask c).Start in omega arith
 
 pub word-word-requires : goal.word-word-requires
-word-word-requires c = record { size = c.requires.whole.size; there = below (goal.at.word-word-requires c).Start }
+word-word-requires c = below (goal.at.word-word-requires c).Start
 
 pub change_word-requires : goal.change_word-requires
 change_word-requires c = record { whole = c.requires.whole; o_bound = below (goal.at.change_word-requires c).Start }

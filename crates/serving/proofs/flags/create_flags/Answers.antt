@@ -27,7 +27,7 @@ pub overflow_cast-x : goal.overflow_cast-x
 overflow_cast-x c = let h = fits (goal.at.overflow_cast-x c).Start in omega arith
 
 pub store-requires : goal.store-requires
-store-requires c = record { size = c.requires.whole.size; there = below (goal.at.store-requires c).Start }
+store-requires c = below (goal.at.store-requires c).Start
 
 pub returns : goal.returns
 unfolding create_flags_effect

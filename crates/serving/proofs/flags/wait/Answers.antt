@@ -58,18 +58,15 @@ overflow_cast-mode c = omega (arith, widths (goal.at.overflow_cast-mode c).Start
 
 pub word-word-requires : goal.word-word-requires
 word-word-requires c =
-    record { size = c.requires.whole.size; there = below (goal.at.word-word-requires c).Start }
+    below (goal.at.word-word-requires c).Start
 
 pub set_result-requires : goal.set_result-requires
 set_result-requires c =
-    record { size = c.requires.whole.size; there = omega (arith, c.chosen-c.ensures, running_below c.requires.allowed (runs (goal.at.set_result-requires c).Start)) }
+    omega (arith, c.chosen-c.ensures, running_below c.requires.allowed (runs (goal.at.set_result-requires c).Start))
 
 pub set_delivered-requires : goal.set_delivered-requires
 set_delivered-requires c =
-    record {
-      size = c.set_result.ensures.size;
-      there = omega (arith, c.chosen-c.ensures, running_below c.requires.allowed (runs (goal.at.set_delivered-requires c).Start));
-    }
+    omega (arith, c.chosen-c.ensures, running_below c.requires.allowed (runs (goal.at.set_delivered-requires c).Start))
 
 pub start_to_wait-requires : goal.start_to_wait-requires
 start_to_wait-requires c = record { ready = running c.chosen-c.ensures c.requires.whole c.requires.allowed (runs (goal.at.start_to_wait-requires c).Start); j_bound = omega (arith, below (goal.at.start_to_wait-requires c).Start) }

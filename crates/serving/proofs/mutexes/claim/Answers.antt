@@ -84,7 +84,7 @@ module _ (q : Request) (s : State) (x : Mutex) (i : ℕ) (is : i ≡ s.chosen) (
       (alter_alike (with_owner i ((mutex q.id s).depth + 1)) (λ y. with_owner i (y.depth + 1) y) absent_mutex s.mutexes q.id refl))
 
 pub mutex-x-requires : goal.mutex-x-requires
-mutex-x-requires c = record { size = c.requires.whole.size; there = below c.requires.whole c.requires.allowed }
+mutex-x-requires c = below c.requires.whole c.requires.allowed
 
 pub start_to_wait-requires : goal.start_to_wait-requires
 start_to_wait-requires c = record { ready = runs c.requires.whole c.requires.allowed c.chosen-c.ensures; j_bound = omega (arith, below c.requires.whole c.requires.allowed) }
@@ -102,11 +102,11 @@ overflow_add-x c =
 
 pub set_owner-requires : goal.set_owner-requires
 set_owner-requires c =
-    record { size = c.requires.whole.size; there = below c.requires.whole c.requires.allowed }
+    below c.requires.whole c.requires.allowed
 
 pub set_result-requires : goal.set_result-requires
 set_result-requires c =
-    record { size = c.set_owner.ensures.size; there = (runs c.requires.whole c.requires.allowed c.chosen-c.ensures).given.thread }
+    (runs c.requires.whole c.requires.allowed c.chosen-c.ensures).given.thread
 
 pub returns-then-is_others : goal.returns-then-is_others
 returns-then-is_others c =

@@ -14,7 +14,7 @@ unfolding answers
 below s = leb-false 4 s.args.q.id (not-due s.requires.allowed 0 refl)
 
 pub store-requires : goal.store-requires
-store-requires c = record { size = c.requires.whole.size; there = below (goal.at.store-requires c).Start }
+store-requires c = below (goal.at.store-requires c).Start
 
 pub returns : goal.returns
 unfolding create_mutex_effect

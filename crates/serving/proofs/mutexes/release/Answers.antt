@@ -68,7 +68,7 @@ module _ {q : Request} {s : State} (a : Allowed release q s) where
         (alter_alike (with_owner owner (n - 1)) (λ x. with_owner x.owner (x.depth - 1) x) absent_mutex s.mutexes q.id (rw (own, has))))
 
 pub depth-depth-requires : goal.depth-depth-requires
-depth-depth-requires c = record { size = c.requires.whole.size; there = below c.requires.allowed }
+depth-depth-requires c = below c.requires.allowed
 
 pub fall-requires : goal.fall-requires
 fall-requires c =
@@ -78,14 +78,14 @@ pub hand_over-requires : goal.hand_over-requires
 hand_over-requires c = record { whole = c.fall.ensures.whole; o_bound = below c.requires.allowed }
 
 pub owner-owner-requires : goal.owner-owner-requires
-owner-owner-requires c = record { size = c.requires.whole.size; there = below c.requires.allowed }
+owner-owner-requires c = below c.requires.allowed
 
 pub overflow_sub-depth : goal.overflow_sub-depth
 overflow_sub-depth c = deep c.requires.allowed c.depth-depth.ensures
 
 pub set_owner-requires : goal.set_owner-requires
 set_owner-requires c =
-    record { size = c.requires.whole.size; there = below c.requires.allowed }
+    below c.requires.allowed
 
 pub returns-then-depth-eq1 : goal.returns-then-depth-eq1
 returns-then-depth-eq1 c =

@@ -33,5 +33,5 @@ returns-then-count-maximum c =
 
 pub returns-else-count-maximum : goal.returns-else-count-maximum
 returns-else-count-maximum c =
-    unaltered c.requires.size (alter_semaphore c.args.o one_more)
+    unaltered c.told-image (alter_semaphore c.args.o one_more)
     (full c.args.o (view c.args.image.now) _ _ c.count-count.ensures c.maximum.ensures c.if-count-maximum.false)

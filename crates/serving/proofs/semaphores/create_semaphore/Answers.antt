@@ -39,7 +39,7 @@ pub overflow_cast-x-2 : goal.overflow_cast-x-2
 overflow_cast-x-2 c = let k = maximum c.requires.allowed in omega arith
 
 pub store-requires : goal.store-requires
-store-requires c = record { size = c.requires.whole.size; there = below c.requires.allowed }
+store-requires c = below c.requires.allowed
 
 pub returns : goal.returns
 unfolding create_semaphore_effect

@@ -44,18 +44,18 @@ module _ (q : Request) (s : State) (i n : ℕ) (is : i ≡ s.chosen) (has : n �
       (ap (λ (k : ℕ). with_count (k - 1) (semaphore q.id s)) has)))
 
 pub count-count-requires : goal.count-count-requires
-count-count-requires c = record { size = c.requires.whole.size; there = below c.requires.whole c.requires.allowed }
+count-count-requires c = below c.requires.whole c.requires.allowed
 
 pub start_to_wait-requires : goal.start_to_wait-requires
 start_to_wait-requires c = record { ready = runs c.requires.whole c.requires.allowed c.chosen-c.ensures; j_bound = omega (arith, below c.requires.whole c.requires.allowed) }
 
 pub set_count-requires : goal.set_count-requires
 set_count-requires c =
-    record { size = c.requires.whole.size; there = below c.requires.whole c.requires.allowed }
+    below c.requires.whole c.requires.allowed
 
 pub set_result-requires : goal.set_result-requires
 set_result-requires c =
-    record { size = c.set_count.ensures.size; there = (runs c.requires.whole c.requires.allowed c.chosen-c.ensures).given.thread }
+    (runs c.requires.whole c.requires.allowed c.chosen-c.ensures).given.thread
 
 pub returns-then-count-eq0 : goal.returns-then-count-eq0
 returns-then-count-eq0 c =

@@ -15,7 +15,7 @@ use Rattle.sound.proofs.timers.action_fits.Goals.{After-action-action}
 fits : (c : After-action-action) → Fits timers_at (timer c.args.o (view c.args.image.now))
 fits c =
     let b = c.args.image.now in
-    timer_fits b (bytes_of b (λ k. (c.type_inv.image k).fits)) c.args.o c.requires.there
+    timer_fits b (bytes_of b c.fits-image) c.args.o c.requires
 
 pub returns-then-action-le1 : goal.returns-then-action-le1
 returns-then-action-le1 c = does_nothing _ _ (fits (goal.at.returns-then-action-le1 c).After-action-action) (omega (arith, c.action-action.ensures, c.if-action-le1.true))

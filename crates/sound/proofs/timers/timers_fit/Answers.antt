@@ -1,36 +1,9 @@
-use mathlib.Core.Path.{◌≡◌, refl, sym}
-use Prim.Native.Nat.{◌-◌}
-use native.Mathlib.Omega.{arith}
-use Rattle.sequences.specs.Lists.{every_below}
-use Rattle.sequences.proofs.Stopping.{one_passes, one_fails}
-use Rattle.model.specs.Layout.{view}
+use borrow.Author.Tests.{tests}
+use Rattle.std.proofs.Common.{rules}
 use Rattle.sound.specs.Asked.{timers_asked}
-use Rattle.sound.proofs.timers.timers_fit.Invariants.{passes}
+use Rattle.sequences.proofs.Ranges.{all_told}
 use Rattle.sound.proofs.timers.timers_fit.Goals as goal
-
-pub loop-o-init : goal.loop-o-init
-unfolding every_below
-loop-o-init c = (omega arith, refl)
-
-pub returns-then-not-timer_fits : goal.returns-then-not-timer_fits
-unfolding timers_asked
-returns-then-not-timer_fits c =
-    let a = c.args in
-    let l = c.loop-o in
-    one_fails (passes (view a.image.now)) 8 l.o (omega arith)
-    c.timer_fits.ensures (c.if-not-timer_fits.true)
-
-pub loop-o-preserved : goal.loop-o-preserved
-loop-o-preserved c =
-    let a = c.args in
-    let l = c.loop-o in (
-      omega arith,
-      one_passes (passes (view a.image.now)) l.o l.invariant.1
-          c.timer_fits.ensures (c.if-not-timer_fits.false),
-    )
 
 pub returns : goal.returns
 unfolding timers_asked
-returns c =
-    let end : c.loop-o.o ≡ 8 = omega arith in
-    sym (rw end at c.loop-o.invariant.1)
+returns c = all_told _ _ (cc) c.all.ensures.ran (λ x b q k. search (rules, tests))

@@ -1,25 +1,11 @@
-use mathlib.Core.Path.{◌≡◌, refl, sym}
-use native.Mathlib.Omega.{arith}
-use Rattle.sequences.specs.Lists.{every_below}
-use Rattle.sequences.proofs.Stopping.{one_passes, one_fails}
-use Rattle.soundness.proofs.lists.ready_lists_fit.Invariants.{fits-at}
+-- `lists::ready_lists_fit` meets its contract: list by list.
+use mathlib.Core.List.{[]}
+use borrow.Author.Rules.{rules}
+use borrow.Author.Tests.{tests}
+use lib.ListN.{get_or}
+use Rattle.table.proofs.Passing.{all_below}
+use Rattle.soundness.specs.Lists.{list_fits}
 use Rattle.soundness.proofs.lists.ready_lists_fit.Goals as goal
 
-pub loop-p-init : goal.loop-p-init
-unfolding every_below
-loop-p-init c = (omega arith, refl)
-
-pub returns-then-not-list_fits : goal.returns-then-not-list_fits
-returns-then-not-list_fits c =
-    let f = fits-at c.args.rows c.args.lengths in
-    one_fails f 8 c.loop-p.p c.loop-p-test.true c.list_fits.ensures (c.if-not-list_fits.true)
-
-pub loop-p-preserved : goal.loop-p-preserved
-loop-p-preserved c =
-    let f = fits-at c.args.rows c.args.lengths in
-    (omega arith, one_passes f c.loop-p.p c.loop-p.invariant.1 c.list_fits.ensures (c.if-not-list_fits.false))
-
 pub returns : goal.returns
-returns c =
-    let end : c.loop-p.p ≡ 8 = omega arith in
-    sym (rw end at c.loop-p.invariant.1)
+returns c = all_below (λ p. list_fits (get_or c.args.lengths p 0) (get_or c.args.rows p [])) 8 c.all.ensures.ran (cc) (λ x b q k. search (rules, tests))

@@ -1,12 +1,16 @@
-use mathlib.Core.Path.{◌≡◌, refl, sym, ◌∙◌}
+-- `threads::threads_fit` meets its contract: thread by thread.
+use mathlib.Core.Path.{◌≡◌}
 use mathlib.Core.Bool.{Bool, ◌||◌}
-use Prim.Native.Nat.{ℕ, ◌<◌}
-use native.Mathlib.Omega.{arith}
+use Prim.Native.Nat.{ℕ}
+use borrow.Author.Rules.{rules}
+use borrow.Author.Tests.{tests}
 use lib.Dec.{eqb}
-use Rattle.sequences.specs.Lists.{every_below}
+use lib.ListN.{get_or}
 use Rattle.model.specs.declared.tables.Thread.{Thread}
+use Rattle.model.specs.Before.{thread_at}
+use Rattle.table.specs.Owners.{owns_one_of}
+use Rattle.table.proofs.Passing.{all_below}
 use Rattle.soundness.specs.Records.{thread_fits}
-use Rattle.sequences.proofs.Stopping.{one_passes, one_fails}
 use Rattle.soundness.proofs.threads.threads_fit.Goals as goal
 
 -- whether it owns a mutex makes no difference but where its current priority isn't its base
@@ -16,20 +20,8 @@ owner-alike : (t : Thread) (standing resting flagged : ℕ) (a b : Bool)
 unfolding thread_fits
 owner-alike t standing resting flagged a b e = rw e
 
-pub loop-i-init : goal.loop-i-init
-unfolding every_below
-loop-i-init c = (omega arith, refl)
-
-pub returns-then-not-thread_fits : goal.returns-then-not-thread_fits
-returns-then-not-thread_fits c =
-    let here : c.loop-i.i < 16 = omega arith in
-    one_fails _ 16 c.loop-i.i here (c.thread_fits.ensures ∙ owner-alike _ _ _ _ _ _ c.may_exceed-owner.ensures) (c.if-not-thread_fits.true)
-
-pub loop-i-preserved : goal.loop-i-preserved
-loop-i-preserved c =
-    (omega arith, one_passes _ c.loop-i.i c.loop-i.invariant.1 (c.thread_fits.ensures ∙ owner-alike _ _ _ _ _ _ c.may_exceed-owner.ensures) (c.if-not-thread_fits.false))
-
 pub returns : goal.returns
 returns c =
-    let end : c.loop-i.i ≡ 16 = omega arith in
-    sym (rw end at c.loop-i.invariant.1)
+    let a = c.args in
+    all_below (λ i. thread_fits (thread_at a.threads i) (get_or a.standing i 0) (get_or a.resting i 0) (get_or a.flagged i 0) (owns_one_of a.mutexes i)) 16 c.all.ensures.ran (cc)
+    (λ x b q k. search (rules, tests, owner-alike))

@@ -1,7 +1,7 @@
 -- `walks::walk_flags` meets its contract: after o turns the lists of the first o flag objects have been gone over.
 use mathlib.Core.Bool.{Bool}
 use mathlib.Core.List.{List, map}
-use Prim.Native.Nat.{ℕ, ◌+◌, ◌-◌, ◌≤◌}
+use Prim.Native.Nat.{ℕ, ◌+◌}
 use lib.ListN.{get_or}
 use lib.Seq.{slice}
 use Rattle.model.specs.declared.tables.Thread.{Thread}
@@ -18,7 +18,4 @@ asks_at threads waits flags o = list_asks of_flags (get_or flags o absent_flags)
 
 abbrev pub invariant-loop-o : goal.invariant-loop-o
 invariant-loop-o l =
-    (l.o ≤ 4) × Walking l.initial.counts (asks_at l.threads l.waits l.flags) (slice 14 18 (map ids_of l.waits)) l.o l.fits l.counts
-
-abbrev pub decreases-loop-o : goal.decreases-loop-o
-decreases-loop-o l = 4 - l.o
+    Walking l.initial.counts (asks_at l.threads l.waits l.flags) (slice 14 18 (map ids_of l.waits)) l.o l.fits l.counts

@@ -3,17 +3,14 @@
 use mathlib.Core.Path.{◌≡◌}
 use mathlib.Core.Bool.{◌&&◌}
 use mathlib.Core.List.{[], ◌∷◌}
-use Prim.Native.Nat.{◌≤◌, ◌-◌}
 use lib.ListN.{take}
 use Rattle.soundness.specs.Lists.{Tallied, list_asks}
+use Rattle.soundness.specs.Members.{kind_of, mark_of}
 use Rattle.soundness.proofs.Asking.{rest_asks}
 use Rattle.soundness.proofs.walks.walk_ids.Given as goal
 
 abbrev pub invariant-loop-k : goal.invariant-loop-k
 invariant-loop-k l =
-    (l.k ≤ l.n)
-    × (list_asks l.kind l.mark l.threads (take l.n l.ids) ≡ l.fits && rest_asks l.kind l.mark l.threads (take l.n l.ids) l.k l.before)
+    (list_asks (kind_of l.members) (mark_of l.members) l.threads (take l.n l.ids)
+    ≡ l.fits && rest_asks (kind_of l.members) (mark_of l.members) l.threads (take l.n l.ids) l.k l.before)
     × Tallied l.initial.counts (take l.k l.ids ∷ []) l.counts
-
-abbrev pub decreases-loop-k : goal.decreases-loop-k
-decreases-loop-k l = l.n - l.k

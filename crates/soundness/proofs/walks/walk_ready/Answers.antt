@@ -8,14 +8,12 @@ use lib.ListN.{length, get_or, take, length-take}
 use Rattle.sequences.specs.Lists.{take_each, every_below}
 use Rattle.sequences.proofs.Tests.{every_below-at}
 use Rattle.sequences.proofs.Places.{take_each-at, length-take_each}
-use Rattle.soundness.specs.Lists.{list_fits, of_ready}
+use Rattle.soundness.specs.Lists.{list_fits}
 use Rattle.soundness.proofs.Fitting.{fitting}
-use Rattle.soundness.proofs.Asking.{nobody, nobody-asked}
 use Rattle.soundness.proofs.Counting.{up_to_more}
-use Rattle.soundness.proofs.Walking.{walking_none, walking_more, walking_past, walking_all}
+use Rattle.soundness.proofs.Walking.{walking_none, walking_more, walking_all}
 use Rattle.soundness.proofs.walks.walk_ready.Invariants.{asks_at}
 use Rattle.soundness.proofs.walks.walk_ready.Goals as goal
-use Rattle.soundness.proofs.walks.walk_ready.Goals.{then-n-gt0, else-n-gt0}
 
 -- there are eight lists
 many : (lengths : List ℕ) (rows : List (List ℕ)) → length lengths ≡ 8 → length rows ≡ 8 → length (take_each lengths rows) ≡ 8
@@ -27,10 +25,10 @@ fits-there : (lengths : List ℕ) (rows : List (List ℕ)) (p : ℕ) → every_b
 fits-there lengths rows p e h = every_below-at (λ p. list_fits (get_or lengths p 0) (get_or rows p [])) 8 p h e
 
 pub loop-p-init : goal.loop-p-init
-loop-p-init c = (omega arith, walking_none _ _ c.requires.counts_up_to)
+loop-p-init c = walking_none _ _ c.requires.counts_up_to
 
 pub walk_ids-one-requires : goal.walk_ids-one-requires
-walk_ids-one-requires c = record { ids_value = fits-there c.args.lengths c.args.rows c.loop-p.p c.requires.p_value c.loop-p-test.true; counts_up_to = up_to_more (omega arith) c.loop-p.invariant.1.within }
+walk_ids-one-requires c = record { ids_value = fits-there c.args.lengths c.args.rows c.loop-p.p c.requires.p_value c.loop-p-test.true; counts_up_to = up_to_more (omega arith) c.loop-p.invariant.within }
 
 pub loop-p-preserved : goal.loop-p-preserved
 loop-p-preserved c =
@@ -43,19 +41,12 @@ loop-p-preserved c =
     let tall : length a.rows ≡ 8 = search rules in
     let at = take_each-at a.lengths a.rows p (omega arith) (omega arith) in
     let room : length (take n row) ≤ 16 = rw length-take (omega arith) in
-    let asks = asks_at a.threads a.rows a.lengths in
+    let asks = asks_at a.threads.now a.rows a.lengths in
     let lists = take_each a.lengths a.rows in
-    let below : p < length lists = omega (arith, many c.args.lengths c.args.rows (search rules) (search rules)) in (
-      omega arith,
-      elim c.if-n-gt0.branch [
-        | then-n-gt0 walk ↦ rw (walk.fits-is, walk.counts-is) (walking_more asks lists c.loop-p.invariant.1 below (rw at room) (rw at walk.walk_ids-one.ensures))
-        | else-n-gt0 past ↦
-            let none = nobody n row past.if-n-gt0.false in
-            rw (past.fits-is, past.counts-is) (walking_past asks lists c.loop-p.invariant.1 below (at ∙ none) (nobody-asked of_ready p a.threads none))
-      ],
-    )
+    let below : p < length lists = omega (arith, many c.args.lengths c.args.rows (search rules) (search rules)) in
+    walking_more asks lists c.loop-p.invariant below (rw at room) (rw at c.walk_ids-one.ensures)
 
 pub returns : goal.returns
 returns c =
     let end : c.loop-p.p ≡ 8 = omega arith in
-    walking_all _ _ (rw end at c.loop-p.invariant.1) (many c.args.lengths c.args.rows (search rules) (search rules))
+    walking_all _ _ (rw end at c.loop-p.invariant) (many c.args.lengths c.args.rows (search rules) (search rules))

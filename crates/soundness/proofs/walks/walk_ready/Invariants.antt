@@ -1,7 +1,7 @@
 -- `walks::walk_ready` meets its contract: after p turns the first p ready lists have been gone over.
 use mathlib.Core.Bool.{Bool}
 use mathlib.Core.List.{List, []}
-use Prim.Native.Nat.{ℕ, ◌≤◌, ◌-◌}
+use Prim.Native.Nat.{ℕ}
 use lib.ListN.{get_or, take}
 use Rattle.sequences.specs.Lists.{take_each}
 use Rattle.model.specs.declared.tables.Thread.{Thread}
@@ -14,7 +14,4 @@ asks_at threads rows lengths p = list_asks of_ready p threads (take (get_or leng
 
 abbrev pub invariant-loop-p : goal.invariant-loop-p
 invariant-loop-p l =
-    (l.p ≤ 8) × Walking l.initial.counts (asks_at l.threads l.rows l.lengths) (take_each l.lengths l.rows) l.p l.fits l.counts
-
-abbrev pub decreases-loop-p : goal.decreases-loop-p
-decreases-loop-p l = 8 - l.p
+    Walking l.initial.counts (asks_at l.threads l.rows l.lengths) (take_each l.lengths l.rows) l.p l.fits l.counts

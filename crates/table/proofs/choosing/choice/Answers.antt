@@ -10,42 +10,34 @@ use Rattle.rows.proofs.Rows.{lists-many, list_at, length_at}
 use Rattle.model.specs.State.{nobody}
 use Rattle.table.proofs.choosing.choice.Goals as goal
 
-pub loop-above-init : goal.loop-above-init
-loop-above-init c =
+pub loop-p-init : goal.loop-p-init
+loop-p-init c =
     let ls = take_each c.args.lengths c.args.rows in
-    (omega arith, sym (ap last_nonempty (take_all 8 ls (omega (arith, lists-many c.requires)))))
+    sym (ap last_nonempty (take_all 8 ls (omega (arith, lists-many c.requires))))
 
 pub returns-then-lengths-p-gt0 : goal.returns-then-lengths-p-gt0
 returns-then-lengths-p-gt0 c =
-    let l = c.loop-above in
-    let p = l.above - 1 in
+    let l = c.loop-p in
+    let p = l.p - 1 in
     let ls = take_each c.args.lengths c.args.rows in
     let here : p < 8 = omega arith in
     let many = lists-many c.requires in
     let long = length_at c.requires p here in
     let full : 0 < get_or c.args.lengths p 0 = c.if-lengths-p-gt0.true in
-    let up : suc p ≡ l.above = omega (arith, c.loop-above-test.true) in
-    let last : last_nonempty ls ≡ get_or ls p [] = l.invariant.1 ∙ ap (λ (n : ℕ). last_nonempty (take n ls)) (sym up) ∙ last-here ls p (omega arith) (omega arith) in
+    let up : suc p ≡ l.p = omega arith in
+    let last : last_nonempty ls ≡ get_or ls p [] = l.invariant ∙ ap (λ (n : ℕ). last_nonempty (take n ls)) (sym up) ∙ last-here ls p (omega arith) (omega arith) in
     sym
     (ap (λ (k : List ℕ). head_or k nobody) last
     ∙ head_first (get_or ls p []) nobody (omega arith)
     ∙ rw (list_at c.requires p here) (get_or-take (get_or c.args.lengths p 0) (get_or c.args.rows p []) 0 0 full))
 
-pub loop-above-preserved : goal.loop-above-preserved
-loop-above-preserved c =
-    let l = c.loop-above in
-    let p = l.above - 1 in
+pub loop-p-preserved : goal.loop-p-preserved
+loop-p-preserved c =
+    let l = c.loop-p in
+    let p = l.p - 1 in
     let ls = take_each c.args.lengths c.args.rows in
     let here : p < 8 = omega arith in
     let many = lists-many c.requires in
     let long = length_at c.requires p here in
-    let up : suc p ≡ l.above = omega (arith, c.loop-above-test.true) in (
-      omega arith,
-      l.invariant.1 ∙ ap (λ (n : ℕ). last_nonempty (take n ls)) (sym up) ∙ last_below ls p (omega arith) (omega (arith, c.if-lengths-p-gt0.false)),
-    )
-
-pub returns : goal.returns
-returns c =
-    let ls = take_each c.args.lengths c.args.rows in
-    let none : c.loop-above.above ≡ 0 = omega (arith, c.loop-above-test.false) in
-    sym (ap (λ (k : List ℕ). head_or k nobody) (c.loop-above.invariant.1 ∙ ap (λ (n : ℕ). last_nonempty (take n ls)) none))
+    let up : suc p ≡ l.p = omega arith in
+    l.invariant ∙ ap (λ (n : ℕ). last_nonempty (take n ls)) (sym up) ∙ last_below ls p (omega arith) (omega (arith, c.if-lengths-p-gt0.false))

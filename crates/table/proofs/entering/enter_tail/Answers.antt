@@ -4,9 +4,6 @@ use Rattle.model.specs.Words.{enter_tail}
 use Rattle.table.proofs.Views.{stored_list}
 use Rattle.table.proofs.entering.enter_tail.Goals as goal
 
-pub with_tail-grown-requires : goal.with_tail-grown-requires
-with_tail-grown-requires c = record { row = c.requires.orderly_table.lists c.args.j c.requires.j_bound.0; length_bound = c.requires.j_bound.1 }
-
 pub returns : goal.returns
 unfolding enter_tail
 returns c =

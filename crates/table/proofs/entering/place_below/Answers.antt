@@ -1,45 +1,30 @@
-use mathlib.Core.Path.{◌≡◌, sym, ◌∙◌}
-use Prim.Native.Nat.{◌<◌}
+-- The ids are searched in their order.
+use mathlib.Core.Path.{◌≡◌, ◌∙◌}
+use Prim.Native.Nat.{ℕ, ◌<◌}
 use native.Mathlib.Omega.{arith}
-use borrow.Author.Tests.{lt-ltb, le-ltb}
+use borrow.Author.Rules.{rules}
+use borrow.Author.Tests.{tests}
+use lib.Dec.{ltb}
 use lib.ListN.{length, take}
 use lib.Seq.{get_or-take, length-take-le}
-use Rattle.sequences.proofs.Searches.{first_step, first_hit, first-end}
-use Rattle.table.proofs.entering.place_below.Invariants.{below}
+use Rattle.std.proofs.lemmas.Iterator.{YieldsList-from_slice}
+use Rattle.std.proofs.lemmas.Iterator.Adapters.{serves_from_places}
+use Rattle.model.specs.Before.{thread_at}
+use Rattle.table.proofs.Passing.{element_at, first_of}
 use Rattle.table.proofs.entering.place_below.Goals as goal
 
-pub offset_bounds-threads-i : goal.offset_bounds-threads-i
-offset_bounds-threads-i c = omega (arith, c.requires.by_index c.loop-k.k c.loop-k-test.true)
-
-pub bounds-threads-i : goal.bounds-threads-i
-bounds-threads-i c = c.requires.by_index c.loop-k.k c.loop-k-test.true
-
-pub returns-then-x-p : goal.returns-then-x-p
-returns-then-x-p c =
+pub position-requires-clause-callable : goal.position-requires-clause-callable
+position-requires-clause-callable c =
     let a = c.args in
-    let l = c.loop-k in
-    let h : l.k < a.n = c.loop-k-test.true in
-    let e : length (take a.n a.ids) ≡ a.n = length-take-le a.n a.ids (omega arith) in
-    sym
-    (l.invariant.1
-    ∙ first_hit (below a.threads a.p) 0 (take a.n a.ids) l.k (omega arith)
-    (rw (get_or-take a.n a.ids l.k 0 h) (lt-ltb _ _ c.if-x-p.true)))
-
-pub loop-k-preserved : goal.loop-k-preserved
-loop-k-preserved c =
-    let a = c.args in
-    let l = c.loop-k in
-    let h : l.k < a.n = c.loop-k-test.true in
-    let e : length (take a.n a.ids) ≡ a.n = length-take-le a.n a.ids (omega arith) in (
-      omega arith,
-      l.invariant.1
-          ∙ first_step (below a.threads a.p) 0 (take a.n a.ids) l.k (omega arith)
-          (rw (get_or-take a.n a.ids l.k 0 h) (le-ltb _ _ c.if-x-p.false)),
-    )
+    let many : length (take a.n a.ids) ≡ a.n = length-take-le a.n a.ids (omega arith) in
+    serves_from_places (YieldsList-from_slice (take a.n a.ids) (search rules)) (λ x q k. search rules)
+    (λ x k h e.
+    let below : x.now < 16 = element_at (λ (i : ℕ). i < 16) 0 (take a.n a.ids) (λ j g. rw (get_or-take a.n a.ids j 0 (omega arith)) (c.requires.by_index j (omega arith))) x.now k h e in
+    search (arith, rules))
 
 pub returns : goal.returns
 returns c =
     let a = c.args in
-    let l = c.loop-k in
-    let e : length (take a.n a.ids) ≡ a.n = length-take-le a.n a.ids (omega arith) in
-    sym (l.invariant.1 ∙ first-end (below a.threads a.p) (take a.n a.ids) l.k (omega arith))
+    let many : length (take a.n a.ids) ≡ a.n = length-take-le a.n a.ids (omega arith) in
+    c.unwrap_or.ensures
+    ∙ first_of (λ x. ltb (thread_at a.threads x).current a.p) (take a.n a.ids) many c.position.ensures.ran (search rules) (λ x b q k. search (rules, tests))

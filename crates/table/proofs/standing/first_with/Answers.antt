@@ -1,39 +1,26 @@
-use mathlib.Core.Path.{◌≡◌, sym, ◌∙◌, ap}
-use mathlib.Core.List.{[], map}
-use native.Mathlib.Omega.{arith}
-use lib.ListN.{length, length-map, get_or-map}
-use Rattle.sequences.specs.Lists.{among}
-use Rattle.sequences.proofs.Searches.{first_step, first_hit, first-end}
-use Rattle.model.specs.Before.{ids_of, no_ids}
+-- The lists are searched in their order.
+use mathlib.Core.Path.{◌≡◌, sym, ◌∙◌}
 use borrow.Author.Rules.{rules}
+use borrow.Author.Tests.{tests}
+use lib.ListN.{length}
+use Rattle.std.proofs.lemmas.Iterator.{YieldsList-from_slice}
+use Rattle.std.proofs.lemmas.Iterator.Adapters.{serves_from_places}
+use Rattle.sequences.specs.Lists.{among}
+use Rattle.rows.specs.Row.{Row}
+use Rattle.model.specs.declared.tables.IdList.{IdList}
+use Rattle.model.specs.Before.{ids_of, no_ids}
+use Rattle.table.proofs.Passing.{element_at, first_of, first-mapped}
 use Rattle.table.proofs.standing.first_with.Goals as goal
 
-pub holds_id-requires : goal.holds_id-requires
-holds_id-requires c = c.requires c.loop-j.j c.loop-j-test.true
-
-pub returns-then-holds_id : goal.returns-then-holds_id
-returns-then-holds_id c =
-    let l = c.loop-j in
-    let ls = map ids_of c.args.waits in
-    let e : length ls ≡ 18 = length-map c.args.waits ids_of ∙ search rules in
-    sym
-    (l.invariant.1
-    ∙ first_hit (among c.args.i) [] ls l.j (omega arith)
-    (ap (among c.args.i) (get_or-map ids_of c.args.waits l.j no_ids) ∙ sym c.holds_id.ensures ∙ c.if-holds_id.true))
-
-pub loop-j-preserved : goal.loop-j-preserved
-loop-j-preserved c =
-    let l = c.loop-j in
-    let ls = map ids_of c.args.waits in
-    let e : length ls ≡ 18 = length-map c.args.waits ids_of ∙ search rules in (
-      omega arith,
-      l.invariant.1
-          ∙ first_step (among c.args.i) [] ls l.j (omega arith)
-          (ap (among c.args.i) (get_or-map ids_of c.args.waits l.j no_ids) ∙ sym c.holds_id.ensures ∙ c.if-holds_id.false),
-    )
+pub position-requires-clause-callable : goal.position-requires-clause-callable
+position-requires-clause-callable c =
+    let many : length c.args.waits ≡ 18 = search rules in
+    serves_from_places (YieldsList-from_slice c.args.waits cc) (λ x q k. search rules)
+    (λ x k h e. let row = element_at (λ (l : IdList). Row 16 l.ids l.length) no_ids c.args.waits (rw many c.requires) x.now k h e in search rules)
 
 pub returns : goal.returns
 returns c =
-    let ls = map ids_of c.args.waits in
-    let e : length ls ≡ 18 = length-map c.args.waits ids_of ∙ search rules in
-    sym (c.loop-j.invariant.1 ∙ first-end (among c.args.i) ls c.loop-j.j (omega arith))
+    let many : length c.args.waits ≡ 18 = search rules in
+    c.unwrap_or.ensures
+    ∙ first_of (λ (l : IdList). among c.args.i (ids_of l)) c.args.waits many c.position.ensures.ran (cc) (λ x b q k. search (rules, tests))
+    ∙ sym (first-mapped (among c.args.i) ids_of c.args.waits)

@@ -2,13 +2,9 @@
 use mathlib.Core.Path.{sym, ◌∙◌, ap}
 use mathlib.Core.List.{List}
 use Prim.Native.Nat.{ℕ}
-use native.Mathlib.Omega.{arith}
 use Rattle.sequences.specs.Lists.{among}
 use Rattle.table.proofs.Views.{list-view}
 use Rattle.table.proofs.standing.is_stopped.Goals as goal
-
-pub holds_id-requires : goal.holds_id-requires
-holds_id-requires c = c.requires.lists 1 (omega arith)
 
 pub returns : goal.returns
 returns c rows =

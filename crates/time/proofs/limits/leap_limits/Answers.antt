@@ -10,7 +10,7 @@ use Rattle.time.proofs.limits.leap_limits.Goals as goal
 use Rattle.time.proofs.limits.leap_limits.Goals.{then-x-gap, else-x-gap}
 
 pub loop-i-init : goal.loop-i-init
-loop-i-init c = (omega arith, walking_start (limit_leap c.args.gap) threads limit c.args.soonest.now c.requires)
+loop-i-init c = walking_start (limit_leap c.args.gap) threads limit c.args.soonest.now c.requires
 
 pub loop-i-preserved : goal.loop-i-preserved
 unfolding view
@@ -23,18 +23,15 @@ loop-i-preserved c =
     elim after.branch [
       | then-x-gap out ↦ rw (out.u-is, out.rows-is, out.x-is) (limit_ends gap l.i l.u l.rows out.if-x-gap.true out.run_out-u.ensures)
       | else-x-gap less ↦
-          rw (less.u-is, less.rows-is, less.x-is) (limit_runs gap l.i l.u l.rows less.if-x-gap.false l.invariant.1.whole below less.less.ensures)
+          rw (less.u-is, less.rows-is, less.x-is) (limit_runs gap l.i l.u l.rows less.if-x-gap.false l.invariant.whole below less.saturating_sub.ensures)
     ]
-    in (
-      omega arith,
-      walking_next (limit_leap gap) threads limit c.args.soonest.now absent_thread l.invariant.1 turn
-          (λ s₁. limit_leap-placed gap l.i s₁ below) (threads-behind gap l.i (view l.u l.rows))
-          (omega (arith, below, turn.does.order.table.threads)) c.nearer-least.ensures,
-    )
+    in
+    walking_next (limit_leap gap) threads limit c.args.soonest.now absent_thread l.invariant turn (λ s₁. limit_leap-placed gap l.i s₁ below)
+    (threads-behind gap l.i (view l.u l.rows)) (omega (arith, below, turn.does.order.table.threads)) c.nearer.ensures
 
 pub returns : goal.returns
 unfolding view
 returns c =
     let l = c.loop-i in
-    let w = l.invariant.1 in
-    let all = walk_all (limit_leap c.args.gap) threads limit c.args.soonest.now _ w.walk 16 (omega (arith, l.invariant.0, c.loop-i-test.false)) (omega (arith, w.whole.order.table.threads)) in record { does = record { order = w.whole.order; view = all.0 }; soonest_after = all.1 }
+    let w = l.invariant in
+    let all = walk_all (limit_leap c.args.gap) threads limit c.args.soonest.now _ w.walk 16 (omega (arith, c.loop-i-test.false)) (omega (arith, w.whole.order.table.threads)) in record { does = record { order = w.whole.order; view = all.0 }; soonest_after = all.1 }

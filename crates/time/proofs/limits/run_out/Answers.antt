@@ -1,5 +1,5 @@
 -- Whether it sleeps is asked of the stored sleep list, which is the list seen; the result goes by that.
-use Rattle.std.proofs.Common.{◌≡◌, ℕ, Bool, true, false, cond, sym, ap, ◌∙◌, arith}
+use Rattle.std.proofs.Common.{◌≡◌, ℕ, Bool, true, false, cond, sym, ap, ◌∙◌}
 use Rattle.sequences.specs.Lists.{among}
 use Rattle.model.specs.declared.tables.Table.{Table}
 use Rattle.model.specs.State.{sleep_list}
@@ -15,9 +15,6 @@ woken : {t r : Table} {rows after : layout.Rows} (i : ℕ) (asleep : Bool) → a
     → Does t rows (wake i (cond asleep 1 2)) r after → Does t rows (run_out i) r after
 woken {t} {r} {rows} i asleep e d =
     same_word (run_out i) d (ap (λ (b : Bool). wake i (cond b 1 2) (view t rows)) (e ∙ ap (among i) (sym (list-view t rows sleep_list))))
-
-pub holds_id-requires : goal.holds_id-requires
-holds_id-requires c = c.requires.whole.order.table.lists sleep_list (omega arith)
 
 pub returns-then-holds_id : goal.returns-then-holds_id
 returns-then-holds_id c =

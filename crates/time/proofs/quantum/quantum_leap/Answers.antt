@@ -53,13 +53,6 @@ module _ (c : Then-left-gap) where
   ends : running (seen s) ≡ s.args.gap
   ends = sym (left c.before.before.before) ∙ c.if-left-gap.true
 
-pub overflow_cast-lengths : goal.overflow_cast-lengths
-overflow_cast-lengths c =
-    omega (arith, ((before (goal.at.overflow_cast-lengths c).Then-left-gap).whole.order.ready.each _ (in_range (goal.at.overflow_cast-lengths c).Then-left-gap)).room)
-
-pub turn_over-requires : goal.turn_over-requires
-turn_over-requires c = record { rows = (before (goal.at.turn_over-requires c).Then-left-gap).whole.order.ready; p_bound = (in_range (goal.at.turn_over-requires c).Then-left-gap, c.if-k-lengths.true) }
-
 pub returns-then-k-lengths : goal.returns-then-k-lengths
 unfolding view
 returns-then-k-lengths c =
@@ -77,8 +70,8 @@ returns-else-k-lengths c =
 pub returns-else-left-gap : goal.returns-else-left-gap
 unfolding view
 returns-else-left-gap c =
-    let rest = c.less.ensures ∙ ap (λ (n : ℕ). n - c.args.gap) (left (goal.at.returns-else-left-gap c).After-quantum_left-left) in
-    same_word (quantum_leap c.args.gap) (writes (chosen-given (goal.at.returns-else-left-gap c).Then-left-gt0) (with_left c.less.result))
+    let rest = c.saturating_sub.ensures ∙ ap (λ (n : ℕ). n - c.args.gap) (left (goal.at.returns-else-left-gap c).After-quantum_left-left) in
+    same_word (quantum_leap c.args.gap) (writes (chosen-given (goal.at.returns-else-left-gap c).Then-left-gt0) (with_left c.saturating_sub.result))
     (spend-some (seen (goal.at.returns-else-left-gap c).Start) c.args.gap (some (goal.at.returns-else-left-gap c).Then-left-gt0) rest
     ∙ leap_spends (seen (goal.at.returns-else-left-gap c).Start) c.requires.gap_nonzero (λ e. c.if-left-gap.false (left (goal.at.returns-else-left-gap c).After-quantum_left-left ∙ e)))
 
@@ -91,17 +84,11 @@ returns-else-left-gt0 c =
       view = spend-none (seen (goal.at.returns-else-left-gt0 c).Start) c.args.gap none ∙ leap_spends (seen (goal.at.returns-else-left-gt0 c).Start) c.requires.gap_nonzero (λ e. omega (arith, c.requires.gap_nonzero));
     }
 
-pub bounds-u-i-then-left-gap : goal.bounds-u-i-then-left-gap
-bounds-u-i-then-left-gap c = below (goal.at.bounds-u-i-then-left-gap c).Then-left-gt0
-
-pub find-k-requires : goal.find-k-requires
-find-k-requires c = record { rows = (before (goal.at.find-k-requires c).Then-left-gap).whole.order.ready; p_bound = in_range (goal.at.find-k-requires c).Then-left-gap }
+pub find-k-requires-clause-p_bound : goal.find-k-requires-clause-p_bound
+find-k-requires-clause-p_bound c = in_range (goal.at.find-k-requires-clause-p_bound c).Then-left-gap
 
 pub bounds-lengths-p : goal.bounds-lengths-p
 bounds-lengths-p c = in_range (goal.at.bounds-lengths-p c).Then-left-gap
 
 pub become_ready-u-requires : goal.become_ready-u-requires
 become_ready-u-requires c = given (goal.at.become_ready-u-requires c).Then-left-gap
-
-pub bounds-u-i-else-left-gap : goal.bounds-u-i-else-left-gap
-bounds-u-i-else-left-gap c = below (goal.at.bounds-u-i-else-left-gap c).Then-left-gt0

@@ -3,13 +3,8 @@ use Rattle.std.proofs.Common.{ℕ, ◌-◌, sym, ap, ◌∙◌, arith}
 use Rattle.model.specs.Before.{view}
 use Rattle.table.proofs.Views.{does, same_word}
 use Rattle.theorems.specs.Leap.{spend}
-use Rattle.theorems.proofs.Spending.{quantum_below, spend-none, spend-some}
+use Rattle.theorems.proofs.Spending.{spend-none, spend-some}
 use Rattle.time.proofs.quantum.spend.Goals as goal
-
-pub with_left-requires : goal.with_left-requires
-unfolding view
-with_left-requires c =
-    let w = c.requires.1 in record { orderly_table = w.order.table; i_bound = quantum_below (view c.args.t c.requires.0) w.placed (omega (arith, c.if-left-eq0.false, c.quantum_left-left.ensures c.requires.0 w.order)) }
 
 pub returns-then-left-eq0 : goal.returns-then-left-eq0
 unfolding view
@@ -21,4 +16,4 @@ unfolding view
 returns-else-left-eq0 c rows w =
     let left = c.quantum_left-left.ensures rows w.order in
     same_word (spend c.args.m) (does rows w.order c.with_left.ensures)
-    (spend-some (view c.args.t rows) c.args.m (omega (arith, c.if-left-eq0.false, left)) (c.less-rest.ensures ∙ ap (λ (n : ℕ). n - c.args.m) left))
+    (spend-some (view c.args.t rows) c.args.m (omega (arith, c.if-left-eq0.false, left)) (c.saturating_sub-rest.ensures ∙ ap (λ (n : ℕ). n - c.args.m) (c.from.ensures ∙ left)))

@@ -27,6 +27,6 @@ returns c =
       image = walked.image;
       nearest = walked.nearest;
       unmoved = walked.unmoved;
-      from = subst (LimitsFrom c.limits_begin-first.result c.args.end) (sym walked.image.view)
-          (onward-from (limits-onward c.args.ticks (view c.args.image.now)) c.limits_begin-first.ensures);
+      from = subst (LimitsFrom c.limits_begin-from.result c.args.end) (sym walked.image.view)
+          (onward-from (limits-onward c.args.ticks (view c.args.image.now)) c.limits_begin-from.ensures);
     }

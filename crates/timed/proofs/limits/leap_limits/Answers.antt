@@ -17,28 +17,6 @@ loop-i-init c =
       m.1,
     )
 
-pub limit-x-requires : goal.limit-x-requires
-limit-x-requires c =
-    let l = c.loop-i in
-    record { size = l.invariant.0.whole.size; there = omega (arith, c.loop-i-test.true, c.requires.ticks_nonzero.2.most) }
-
-pub run_out-requires : goal.run_out-requires
-run_out-requires c =
-    let l = c.loop-i in
-    let e = c.limit-x.ensures in record { given = record { whole = l.invariant.0.whole; thread = omega (arith, c.loop-i-test.true, c.requires.ticks_nonzero.2.most) }; waits_nonzero = l.invariant.1 l.i (omega (arith, e, c.if-x-ticks.true, c.requires.ticks_nonzero.0)) }
-
-pub set_limit-requires : goal.set_limit-requires
-set_limit-requires c =
-    let l = c.loop-i in
-    record { size = l.invariant.0.whole.size; there = omega (arith, c.loop-i-test.true, c.requires.ticks_nonzero.2.most) }
-
-pub overflow_add-i : goal.overflow_add-i
-overflow_add-i c =
-    omega (arith, c.loop-i-test.true, c.requires.ticks_nonzero.2.most)
-
-pub loop-i-smaller : goal.loop-i-smaller
-loop-i-smaller c = omega (arith, c.loop-i-test.true)
-
 pub loop-i-preserved : goal.loop-i-preserved
 loop-i-preserved c =
     let after = c.if-x-ticks in
@@ -52,17 +30,14 @@ loop-i-preserved c =
       | else-x-ticks less ↦
           rw (less.image-is, less.moved-is, less.x-is)
           (limit_runs ticks l.i l.image l.moved (λ e. less.if-x-ticks.false (c.limit-x.ensures ∙ e)) l.invariant.0.whole
-          (less.less-x.ensures ∙ ap (λ (x : ℕ). x - ticks) c.limit-x.ensures) (omega arith) less.set_limit.ensures)
+          (less.saturating_sub-x.ensures ∙ ap (λ (x : ℕ). x - ticks) c.limit-x.ensures) (omega arith) less.set_limit.ensures)
     ]
     in (
       walking_next (limit_leap ticks) threads limit absent_thread l.invariant.0 c.loop-i-test.true
           (omega (arith, many-threads l.image, c.loop-i-test.true, c.requires.ticks_nonzero.2.most)) turn
-          (c.earlier-nearest.ensures ∙ ap (λ (x : ℕ). min x l.nearest) c.place-p.ensures),
+          (c.min-nearest.ensures ∙ ap (λ (x : ℕ). min x l.nearest) c.place.ensures),
       limited-next ticks l.i turn.does l.invariant.1,
     )
-
-pub shape_of-image : goal.shape_of-image
-shape_of-image c = c.loop-i.invariant.0.whole.size ∙ sym c.requires.whole.size
 
 pub returns : goal.returns
 returns c =

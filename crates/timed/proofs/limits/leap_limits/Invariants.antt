@@ -1,5 +1,4 @@
 -- Thread by thread: each turn, by either way, is the model's.
-use Rattle.std.proofs.Common.{◌-◌}
 use Rattle.model.specs.State.{absent_thread}
 use Rattle.model.specs.Layout.{view}
 use Rattle.theorems.specs.Leap.{limit_leap}
@@ -11,6 +10,3 @@ use Rattle.timed.proofs.limits.leap_limits.Given as goal
 abbrev pub invariant-loop-i : goal.invariant-loop-i
 invariant-loop-i l =
     Walking (limit_leap l.ticks) threads limit absent_thread l.end (view l.initial.image) l.i l.image l.nearest l.moved × Limited (view l.image)
-
-abbrev pub decreases-loop-i : goal.decreases-loop-i
-decreases-loop-i l = l.end - l.i

@@ -29,10 +29,6 @@ pub left-left-requires : goal.left-left-requires
 left-left-requires c =
     chosen-named c.requires.whole c.requires.image_value.0 c.chosen-c.ensures
 
-pub overflow_sub-left : goal.overflow_sub-left
-overflow_sub-left c =
-    enough (view c.args.image.now) c.chosen-c.ensures c.left-left.ensures c.args.m c.requires.image_value.1
-
 pub set_left-requires : goal.set_left-requires
 set_left-requires c =
     chosen-named c.requires.whole c.requires.image_value.0 c.chosen-c.ensures

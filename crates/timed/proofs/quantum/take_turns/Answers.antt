@@ -7,7 +7,7 @@ use Rattle.model.specs.Parts.{thread, ready_list, with_chosen, with_left, alter_
 use Rattle.model.specs.Words.{choice}
 use Rattle.model.specs.Tick.{quantum_counts}
 use Rattle.model.specs.Layout.{view}
-use Rattle.fields.specs.Fields.{Named, Alters}
+use Rattle.fields.specs.Fields.{Alters}
 use Rattle.rules.specs.Counting.{place}
 use Rattle.words.specs.Images.{Whole, Does}
 use Rattle.words.proofs.Accepted.{unmoved_does}
@@ -41,8 +41,8 @@ module _ {b : List ℕ} (pre : Whole b × ((quantum_counts (view b) ≡ true) ×
   link-some : 1 ≤ link
   link-some = some_heir pre.0.placed pre.1.0 pre.1.1 link-is
 
-  heir-named : Named 16 r heir
-  heir-named = record { size = turn.whole.size; there = heir_below pre.0.placed pre.1.0 pre.1.1 link-is }
+  heir-named : heir < 16
+  heir-named = heir_below pre.0.placed pre.1.0 pre.1.1 link-is
 
   module _ {q : ℕ} (all : q ≡ (thread heir (view r)).quantum) {u v : List ℕ}
       (renew : Alters r (alter_thread heir (with_left q)) u) (choose : Alters u (with_chosen heir) v) where
@@ -62,17 +62,9 @@ pub current-p-requires : goal.current-p-requires
 current-p-requires c =
     chosen-named c.requires.whole c.requires.image_value.0 c.chosen-c.ensures
 
-pub bounds-image-p : goal.bounds-image-p
-bounds-image-p c =
-    link_in (c.requires.whole, c.requires.image_value) c.chosen-c.ensures c.current-p.ensures c.turn_over.ensures
-
 pub overflow_sub-heir : goal.overflow_sub-heir
 overflow_sub-heir c =
     link-some (c.requires.whole, c.requires.image_value) c.chosen-c.ensures c.current-p.ensures c.turn_over.ensures
-
-pub overflow_cast-i : goal.overflow_cast-i
-overflow_cast-i c =
-    omega (arith, (heir-named (c.requires.whole, c.requires.image_value) c.chosen-c.ensures c.current-p.ensures c.turn_over.ensures).there)
 
 pub quantum-all-requires : goal.quantum-all-requires
 quantum-all-requires c =

@@ -1,10 +1,10 @@
 -- Who runs is ready, and stands on the list of its current priority still when its quantum is renewed.
-use Rattle.std.proofs.Common.{◌≡◌, ℕ, true, List, refl, ap, ◌∙◌}
+use Rattle.std.proofs.Common.{◌≡◌, ℕ, ◌<◌, true, List, refl, ap, ◌∙◌}
 use Rattle.model.specs.Parts.{thread, with_left, alter_thread, refilled}
 use Rattle.model.specs.Words.{is_ready, become_ready, choice}
 use Rattle.model.specs.Tick.{quantum_counts}
 use Rattle.model.specs.Layout.{view}
-use Rattle.fields.specs.Fields.{Named, Alters}
+use Rattle.fields.specs.Fields.{Alters}
 use Rattle.words.specs.Images.{Whole, Does, On, Ready}
 use Rattle.words.proofs.Does.{same_word, and_then, rewritten_does}
 use Rattle.words.proofs.Known.{ready_on, rewritten_ready}
@@ -14,13 +14,13 @@ use Rattle.timed.proofs.quantum.turn_over.Goals as goal
 
 module _ {b : List ℕ} (pre : Whole b × ((quantum_counts (view b) ≡ true) × (choice (view b) ≡ (view b).chosen)))
     {i : ℕ} (chosen : i ≡ (view b).chosen) where
-  named : Named 16 b i
+  named : i < 16
   named = chosen-named pre.0 pre.1.0 chosen
 
   ready : Ready b i
   ready =
       record {
-        given = record { whole = pre.0; thread = named.there };
+        given = record { whole = pre.0; thread = named };
         ready = ap (λ (k : ℕ). is_ready k (view b)) chosen ∙ chosen-ready pre.0.placed pre.1.0 pre.1.1;
       }
 
@@ -44,7 +44,7 @@ set_left-requires c =
 
 pub current-p-requires : goal.current-p-requires
 current-p-requires c =
-    record { size = c.set_left.ensures.size; there = (named (c.requires.whole, c.requires.image_value) c.chosen-c.ensures).there }
+    named (c.requires.whole, c.requires.image_value) c.chosen-c.ensures
 
 pub become_ready-requires : goal.become_ready-requires
 become_ready-requires c =

@@ -15,7 +15,7 @@ still-limits m {from} {end} b d l =
 
 pub settle_limits-requires : goal.settle_limits-requires
 settle_limits-requires c =
-    let d = c.settle_timers.ensures in record { whole = d.whole; limits_from = still-limits c.args.m c.args.image.now d c.requires.timers_to.1 }
+    let d = c.settle_timers.ensures in record { whole = d.whole; limits_from = still-limits c.args.m c.args.image.now d c.requires.within.limits }
 
 pub returns : goal.returns
 unfolding owed

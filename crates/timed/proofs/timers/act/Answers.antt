@@ -1,5 +1,5 @@
 -- The model's action by its kind, of the timer as it is read.
-use Rattle.std.proofs.Common.{◌≡◌, ℕ, zero, suc, ◌<◌, refl, ap, ◌∙◌, arith}
+use Rattle.std.proofs.Common.{◌≡◌, ℕ, zero, suc, ◌<◌, ◌≤◌, refl, sym, ap, ◌∙◌, arith, rules}
 use Rattle.model.specs.declared.tables.Timer.{Timer}
 use Rattle.model.specs.State.{State}
 use Rattle.model.specs.Parts.{timer}
@@ -33,23 +33,18 @@ module _ (o : ℕ) (s : State) {t : Timer} (is : t ≡ timer o s) where
   act-sets : 0 < (timer o s).kind → (t.kind ≡ 1 → ⊥) → set_flags t.object t.mask s ≡ act_of o s
   act-sets some other = sets t.kind t.object t.mask s (omega (arith, ap (λ (y : Timer). y.kind) is, some)) other ∙ acts
 
-pub timer-t-requires : goal.timer-t-requires
-timer-t-requires c =
-    record { size = c.requires.whole.size; there = c.requires.o_bound.0 }
+pub returns-in-Ok-Nothing : goal.returns-in-Ok-Nothing
+returns-in-Ok-Nothing c =
+    let none : c.timer-t.result.kind ≡ 0 = sym (rw c.in-Ok-Nothing.field-0-is at c.in-Ok-Nothing.ensures) in
+    absurd (omega (arith, none, ap (λ (y : Timer). y.kind) c.timer-t.ensures, c.requires.o_bound.2))
 
-pub post_semaphore-requires : goal.post_semaphore-requires
-post_semaphore-requires c = record { whole = c.requires.whole; o_bound = (due c.timer-t.ensures c.requires.o_bound.1 c.requires.o_bound.2).0.posts c.if-t-eq-POST.true }
+pub returns-in-Ok-Post : goal.returns-in-Ok-Post
+returns-in-Ok-Post c =
+    let one = rw c.in-Ok-Post.field-0-is at c.in-Ok-Post.ensures in
+    same_word c.post_semaphore.ensures (act_of c.args.o) (act-posts c.args.o (view c.args.image.now) c.timer-t.ensures (sym one))
 
-pub set_flags-requires : goal.set_flags-requires
-set_flags-requires c =
-    let d = due c.timer-t.ensures c.requires.o_bound.1 c.requires.o_bound.2 in record { whole = c.requires.whole; o_bound = d.0.sets (omega (arith, c.if-t-eq-POST.false, d.1)) }
-
-pub returns-then-t-eq-POST : goal.returns-then-t-eq-POST
-returns-then-t-eq-POST c =
-    same_word c.post_semaphore.ensures (act_of c.args.o)
-    (act-posts c.args.o (view c.args.image.now) c.timer-t.ensures c.if-t-eq-POST.true)
-
-pub returns-else-t-eq-POST : goal.returns-else-t-eq-POST
-returns-else-t-eq-POST c =
+pub returns-in-Ok-SetFlags : goal.returns-in-Ok-SetFlags
+returns-in-Ok-SetFlags c =
+    let more : 2 ≤ c.timer-t.result.kind = search rules in
     same_word c.set_flags.ensures (act_of c.args.o)
-    (act-sets c.args.o (view c.args.image.now) c.timer-t.ensures c.requires.o_bound.2 c.if-t-eq-POST.false)
+    (act-sets c.args.o (view c.args.image.now) c.timer-t.ensures c.requires.o_bound.2 (λ e. omega (arith, e, more)))

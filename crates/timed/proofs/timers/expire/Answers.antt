@@ -1,5 +1,5 @@
 -- Each way of the test writes what the model's does.
-use Rattle.std.proofs.Common.{◌≡◌, ℕ, List, ap, ◌∙◌, eq-eqb, ne_eqb}
+use Rattle.std.proofs.Common.{◌≡◌, ℕ, List, refl, ap, ◌∙◌, eq-eqb, ne_eqb}
 use Rattle.sequences.proofs.Places.{alter_alike}
 use Rattle.model.specs.declared.tables.Timer.{Timer}
 use Rattle.model.specs.State.{unused_timer}
@@ -31,4 +31,5 @@ returns c =
       | then-t-eq1 w ↦ rw (w.again-is, eq-eqb t.repeat 1 w.if-t-eq1.true)
       | else-t-eq1 w ↦ rw (w.again-is, ne_eqb t.repeat 1 w.if-t-eq1.false)
     ]
-    in record { image = expires b c.set_time.new.image c.args.o t c.requires.t_value left c.wrapping_add_u32-count.ensures.value c.set_time.ensures; left = left }
+    in let count : (expired t).count ≡ (expired t).count = refl in
+    record { image = expires b c.set_time.new.image c.args.o t c.requires.t_value left count c.set_time.ensures; left = left }

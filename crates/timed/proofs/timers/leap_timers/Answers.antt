@@ -1,17 +1,12 @@
-use Rattle.std.proofs.Common.{ℕ, ◌-◌, ◌<◌, ◌≤◌, min, List, sym, ap, ◌∙◌, arith}
+use Rattle.std.proofs.Common.{ℕ, ◌-◌, min, sym, ap, ◌∙◌, arith}
 use Rattle.model.specs.declared.tables.Timer.{Timer}
 use Rattle.model.specs.State.{unused_timer}
 use Rattle.layout.proofs.Viewed.{many_timers}
 use Rattle.theorems.specs.Leap.{timer_leap}
-use Rattle.fields.specs.Fields.{Named}
-use Rattle.words.specs.Images.{Whole}
 use Rattle.timed.proofs.Walking.{Turn, walking_start, walking_next, walking_all}
 use Rattle.timed.proofs.TimerWalk.{timers, left, timer-idle, expired-whole, expired_kind, expired-armed, timer_acts, timer_rests, timer_runs, armed-next}
 use Rattle.timed.proofs.timers.leap_timers.Goals as goal
-use Rattle.timed.proofs.timers.leap_timers.Goals.{then-x-ticks+then-t-ne-NOTHING, then-x-ticks+else-t-ne-NOTHING, else-x-ticks}
-
-named : {b : List ℕ} {o end : ℕ} → Whole b → o < end → end ≤ 8 → Named 8 b o
-named w below most = record { size = w.size; there = omega arith }
+use Rattle.timed.proofs.timers.leap_timers.Goals.{then-x-ticks+then-t, then-x-ticks+else-t, else-x-ticks}
 
 pub loop-o-init : goal.loop-o-init
 loop-o-init c =
@@ -20,20 +15,6 @@ loop-o-init c =
       walking_start (timer_leap c.args.ticks) timers left unused_timer (timer-idle c.requires.ticks_nonzero.0) b 0 c.args.end c.requires.whole (omega arith)
           (λ k h. absurd (omega arith)) c.requires.ticks_nonzero.2.behind,
     )
-
-pub left-x-requires : goal.left-x-requires
-left-x-requires c =
-    let l = c.loop-o in
-    named l.invariant.1.whole c.loop-o-test.true c.requires.ticks_nonzero.2.most
-
-pub timer-t-requires : goal.timer-t-requires
-timer-t-requires c =
-    let l = c.loop-o in
-    named l.invariant.1.whole c.loop-o-test.true c.requires.ticks_nonzero.2.most
-
-pub expire-x-requires : goal.expire-x-requires
-expire-x-requires c =
-    let l = c.loop-o in record { named = named l.invariant.1.whole c.loop-o-test.true c.requires.ticks_nonzero.2.most; t_value = c.timer-t.ensures }
 
 pub act-requires : goal.act-requires
 act-requires c =
@@ -44,14 +25,9 @@ act-requires c =
       o_bound = (
         omega (arith, c.loop-o-test.true, c.requires.ticks_nonzero.2.most),
         expired-armed l.o l.image a l.invariant.0 l.o,
-        omega (arith, kind, c.if-t-ne-NOTHING.true),
+        omega (arith, kind, c.if-t.true),
       );
     }
-
-pub set_left-requires : goal.set_left-requires
-set_left-requires c =
-    let l = c.loop-o in
-    named l.invariant.1.whole c.loop-o-test.true c.requires.ticks_nonzero.2.most
 
 pub loop-o-preserved : goal.loop-o-preserved
 loop-o-preserved c =
@@ -60,28 +36,25 @@ loop-o-preserved c =
     let ticks = c.args.ticks in
     let turn : Turn (timer_leap ticks l.o) timers left unused_timer l.o l.image l.moved after.image after.moved after.x =
     elim after.branch [
-      | then-x-ticks+then-t-ne-NOTHING acts ↦
+      | then-x-ticks+then-t acts ↦
           rw (acts.image-is, acts.moved-is, acts.x-is)
           (timer_acts ticks l.o l.image l.invariant.1.whole acts.expire-x.ensures.image acts.timer-t.ensures
           (sym c.left-x.ensures ∙ acts.if-x-ticks.true) acts.expire-x.ensures.left (omega arith) l.moved acts.act.ensures)
-      | then-x-ticks+else-t-ne-NOTHING rests ↦
+      | then-x-ticks+else-t rests ↦
           rw (rests.image-is, rests.moved-is, rests.x-is)
           (timer_rests ticks l.o l.image l.invariant.1.whole rests.expire-x.ensures.image rests.timer-t.ensures
-          (sym c.left-x.ensures ∙ rests.if-x-ticks.true) rests.expire-x.ensures.left (omega arith) l.moved rests.if-t-ne-NOTHING.false)
+          (sym c.left-x.ensures ∙ rests.if-x-ticks.true) rests.expire-x.ensures.left (omega arith) l.moved rests.if-t.false)
       | else-x-ticks runs ↦
           rw (runs.image-is, runs.moved-is, runs.x-is)
           (timer_runs ticks l.o l.image l.moved l.invariant.1.whole runs.set_left.ensures (λ e. runs.if-x-ticks.false (c.left-x.ensures ∙ e))
-          (runs.less-x.ensures ∙ ap (λ (x : ℕ). x - ticks) c.left-x.ensures) (omega arith))
+          (runs.saturating_sub-x.ensures ∙ ap (λ (x : ℕ). x - ticks) c.left-x.ensures) (omega arith))
     ]
     in (
       armed-next ticks l.o l.image l.invariant.0 turn.does,
       walking_next (timer_leap ticks) timers left unused_timer l.invariant.1 c.loop-o-test.true
           (omega (arith, many_timers l.image, c.loop-o-test.true, c.requires.ticks_nonzero.2.most)) turn
-          (c.earlier-nearest.ensures ∙ ap (λ (p : ℕ). min p l.nearest) c.place-p.ensures),
+          (c.min-nearest.ensures ∙ ap (λ (p : ℕ). min p l.nearest) c.place.ensures),
     )
-
-pub shape_of-image : goal.shape_of-image
-shape_of-image c = c.loop-o.invariant.1.whole.size ∙ sym c.requires.whole.size
 
 pub returns : goal.returns
 returns c =

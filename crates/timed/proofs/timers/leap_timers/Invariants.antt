@@ -1,5 +1,4 @@
 -- Timer by timer: each turn, by any of its ways, is the model's.
-use Rattle.std.proofs.Common.{◌-◌}
 use Rattle.model.specs.State.{unused_timer}
 use Rattle.model.specs.Layout.{view}
 use Rattle.theorems.specs.Leap.{timer_leap}
@@ -11,6 +10,3 @@ use Rattle.timed.proofs.timers.leap_timers.Given as goal
 abbrev pub invariant-loop-o : goal.invariant-loop-o
 invariant-loop-o l =
     Armed (view l.image) × Walking (timer_leap l.ticks) timers left unused_timer l.end (view l.initial.image) l.o l.image l.nearest l.moved
-
-abbrev pub decreases-loop-o : goal.decreases-loop-o
-decreases-loop-o l = l.end - l.o

@@ -13,7 +13,6 @@ use Rattle.model.specs.State.{absent_thread}
 use Rattle.model.specs.Parts.{thread}
 use Rattle.model.specs.Tick.{quantum_counts}
 use Rattle.model.specs.Layout.{view, lists_of}
-use Rattle.fields.specs.Fields.{Named}
 use Rattle.layout.proofs.Viewed.{many-threads, ready_linked}
 use Rattle.words.specs.Images.{Whole}
 use Rattle.untimed.proofs.next.quantum_left.Goals as goal
@@ -69,9 +68,6 @@ passed e =
     let h = neither (not (eqb off 0)) (leb 16 i) e.if-off-i.false in
     (eqb-true off 0 (not-false (eqb off 0) h.0), leb-false 16 i h.1)
 
-named : (e : Else-off-i) → Named 16 e.args.image.now e.chosen-i.result
-named e = record { size = e.requires.size; there = (passed e).1 }
-
 pub returns-then-off-i : goal.returns-then-off-i
 returns-then-off-i c =
     let off = c.off in
@@ -110,10 +106,10 @@ returns c =
     )
 
 pub quantum-requires : goal.quantum-requires
-quantum-requires c = named c
+quantum-requires c = (passed c).1
 
 pub current-p-requires : goal.current-p-requires
-current-p-requires c = named (goal.at.current-p-requires c).Else-off-i
+current-p-requires c = (passed (goal.at.current-p-requires c).Else-off-i).1
 
 pub left-requires : goal.left-requires
-left-requires c = named (goal.at.left-requires c).Else-off-i
+left-requires c = (passed (goal.at.left-requires c).Else-off-i).1

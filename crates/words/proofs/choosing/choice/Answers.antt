@@ -52,27 +52,27 @@ upper-empty b size e =
     let fifth = not-here b size 6 (omega arith) (omega arith) sixth (omega (arith, e)) in
     not-here b size 5 (omega arith) (omega arith) fifth (omega (arith, e))
 
-pub loop-above-init : goal.loop-above-init
-loop-above-init c =
+pub loop-p-init : goal.loop-p-init
+loop-p-init c =
     let b = c.args.image.now in
     elim c.if-u32_at-eq0.branch [
-      | then-u32_at-eq0 w ↦ rw w.above-is (omega arith, upper-empty b c.requires (sym c.u32_at.ensures ∙ w.if-u32_at-eq0.true))
+      | then-u32_at-eq0 w ↦ rw w.above-is (omega arith, upper-empty b c.told-image (sym c.u32_at.ensures ∙ w.if-u32_at-eq0.true))
       | else-u32_at-eq0 w ↦
-          rw w.above-is (omega arith, sym (ap last_nonempty (take_all 8 (view b).ready (omega (arith, many-ready b c.requires)))))
+          rw w.above-is (omega arith, sym (ap last_nonempty (take_all 8 (view b).ready (omega (arith, many-ready b c.told-image)))))
     ]
 
 pub returns-then-link-ne0 : goal.returns-then-link-ne0
 returns-then-link-ne0 c =
-    let l = c.loop-above in
-    chosen-here c.args.image.now c.requires l.above (omega arith) l.invariant.0 l.invariant.1 (omega arith)
+    let l = c.loop-p in
+    chosen-here c.args.image.now c.told-image l.p (omega arith) l.invariant.0 l.invariant.1 (omega arith)
 
-pub loop-above-preserved : goal.loop-above-preserved
-loop-above-preserved c =
-    let l = c.loop-above in
-    (omega arith, not-here c.args.image.now c.requires l.above (omega arith) l.invariant.0 l.invariant.1 c.if-link-ne0.false)
+pub loop-p-preserved : goal.loop-p-preserved
+loop-p-preserved c =
+    let l = c.loop-p in
+    (omega arith, not-here c.args.image.now c.told-image l.p (omega arith) l.invariant.0 l.invariant.1 c.if-link-ne0.false)
 
 pub returns : goal.returns
 returns c =
     let ls = (view c.args.image.now).ready in
-    let none : c.loop-above.above ≡ 0 = omega (arith, c.loop-above-test.false) in
-    sym (ap (λ (k : List ℕ). head_or k nobody) (c.loop-above.invariant.1 ∙ ap (λ (n : ℕ). last_nonempty (take n ls)) none))
+    let none : c.loop-p.p ≡ 0 = omega (arith, c.loop-p-test.false) in
+    sym (ap (λ (k : List ℕ). head_or k nobody) (c.loop-p.invariant.1 ∙ ap (λ (n : ℕ). last_nonempty (take n ls)) none))

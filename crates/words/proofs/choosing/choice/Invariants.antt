@@ -6,8 +6,5 @@ use Rattle.sequences.specs.Lists.{last_nonempty}
 use Rattle.model.specs.Layout.{view}
 use Rattle.words.proofs.choosing.choice.Given as goal
 
-abbrev pub invariant-loop-above : goal.invariant-loop-above
-invariant-loop-above l = (l.above ≤ 8) × (last_nonempty (view l.image).ready ≡ last_nonempty (take l.above (view l.image).ready))
-
-abbrev pub decreases-loop-above : goal.decreases-loop-above
-decreases-loop-above l = l.above
+abbrev pub invariant-loop-p : goal.invariant-loop-p
+invariant-loop-p l = (l.p ≤ 8) × (last_nonempty (view l.image).ready ≡ last_nonempty (take l.p (view l.image).ready))

@@ -29,5 +29,5 @@ returns-then-off-c c =
 
 pub returns-else-off-c : goal.returns-else-off-c
 returns-else-off-c c =
-    unaltered c.requires choose
+    unaltered c.told-image choose
     (stays (view c.args.image.now) c.choice-c.ensures c.off.ensures c.chosen.ensures c.if-off-c.false)

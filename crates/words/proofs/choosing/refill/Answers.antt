@@ -24,5 +24,5 @@ returns-then-i-lt-THREAD_COUNT c =
 pub returns-else-i-lt-THREAD_COUNT : goal.returns-else-i-lt-THREAD_COUNT
 returns-else-i-lt-THREAD_COUNT c =
     let b = c.args.image.now in
-    unaltered c.requires (alter_thread c.args.c refilled)
+    unaltered c.told-image (alter_thread c.args.c refilled)
     (ap (λ (l : List Thread). with_threads l (view b)) (alter_out refilled c.args.c (view b).threads (omega (arith, many-threads b, c.if-i-lt-THREAD_COUNT.false))))

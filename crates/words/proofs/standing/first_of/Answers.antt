@@ -11,4 +11,4 @@ pub returns : goal.returns
 returns c =
     let b = c.args.image.now in
     let j = c.args.j in
-    first_link b c.requires.sized (8 + j) (omega (arith, c.requires.j_bound)) ∙ ap head_link (sym (list_linked b j))
+    first_link b c.told-image (8 + j) (omega (arith, c.requires.j_bound)) ∙ ap head_link (sym (list_linked b j))

@@ -1,5 +1,0 @@
--- `reading::semaphore` meets its contract: each field is its byte, or what was read from its place.
-use Rattle.image.proofs.reading.semaphore.Goals as goal
-
-pub returns : goal.returns
-returns c = cc
