@@ -1,7 +1,7 @@
 // A block of a replay file: each record is decoded, called and told on a line (01, Replay file). The lines of a block go into one buffer.
 #![tactic(auto)]
 
-ghost use Rattle.std.specs.Prelude.{◌≡◌, ◌++◌, ◌+◌, ◌*◌, ◌<◌, ◌≤◌, is_none, length, take, drop};
+ghost use Rattle.std.specs.Prelude.{◌≡◌, ◌++◌, ◌+◌, ◌*◌, ◌<◌, ◌≤◌, length, take, drop};
 ghost use Rattle.io.specs.Counts.{IsPrefixLen};
 ghost use Rattle.model.specs.Replay.{line_of};
 ghost use Rattle.text.specs.Text.{line_text, text_of};
@@ -9,14 +9,14 @@ ghost use Rattle.blocks.specs.Blocks.{block};
 
 use model::answers::Report;
 use model::tables::Table;
-use records::{BadRecord, RECORD_LENGTH};
+use records::RECORD_LENGTH;
 
-// The table after a block, how many bytes of text it came to, and the record that ended it before its end, if one did.
+// The table after a block, how many bytes of text it came to, and whether its records were good; the first two are told either way.
 #[derive(Clone, Copy)]
 pub struct Block {
     pub table: Table,
     pub length: usize,
-    pub bad: Option<BadRecord>,
+    pub good: bool,
 }
 
 fn put_report(out: &mut [u8], at: usize, told: Report) -> usize
@@ -47,7 +47,7 @@ pub fn replay_block(
     ensures text { take result.length out.new ≡ text_of (block offset bytes.now (record { table = t; rows = rows.old })).lines }
     ensures counts { IsPrefixLen result.length out.new }
     ensures after { record { table = result.table; rows = rows.new } ≡ (block offset bytes.now (record { table = t; rows = rows.old })).after }
-    ensures good { is_none result.bad ≡ (block offset bytes.now (record { table = t; rows = rows.old })).good }
+    ensures good { result.good ≡ (block offset bytes.now (record { table = t; rows = rows.old })).good }
     ensures rest { drop result.length out.new ≡ drop result.length out.old }
 {
     let mut table = t;
@@ -59,7 +59,7 @@ pub fn replay_block(
             return Block {
                 table,
                 length: text::put_bad_record(out, end, here),
-                bad: Some(BadRecord { offset: here }),
+                good: false,
             };
         };
         let reply = entries::call(table, rows, q);
@@ -70,6 +70,6 @@ pub fn replay_block(
     Block {
         table,
         length: end,
-        bad: None,
+        good: true,
     }
 }

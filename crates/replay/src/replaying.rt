@@ -45,7 +45,7 @@ fn turn<R: Read>(
         messages::cannot_write(errors, &why);
         return None;
     }
-    if done.bad.is_some() {
+    if !done.good {
         return None;
     }
     if let Some(why) = filled.failure {
