@@ -77,6 +77,17 @@ def is_declared(lines):
     return next(line for line in lines if line.endswith(("{", ";"))).endswith(";")
 
 
+def declared(path):
+    """The functions of a file that a trait declares without a body, each with an empty one."""
+    lines = path.read_text().split("\n")
+    for at, line in enumerate(lines):
+        start = START.match(line)
+        if start and is_declared(lines[at:]):
+            end = next(k for k in range(at, len(lines)) if lines[k].endswith(";"))
+            head = [*lines[at:end], lines[end].removesuffix(";") + " {"]
+            yield Function(path, start[3], impl_around(lines[:at]), False, at, [*head, start[1] + "}"])
+
+
 def impl_around(lines):
     """What a proof calls the impl, or the trait, that these lines begin: the words of the type, the trait and the trait's arguments, but for the impl's own
     parameters."""

@@ -2,7 +2,7 @@
 ghost use Rattle.std.specs.Prelude.{◌≡◌};
 ghost use Rattle.model.specs.State.{State};
 ghost use Rattle.model.specs.Parts.{semaphore, mutex, flag_object};
-ghost use Rattle.model.specs.Ranges.{has_thread, has_semaphore, has_mutex, has_flags};
+ghost use Rattle.model.specs.Ranges.{has_thread, has_semaphore, has_mutex, has_flags, names_object};
 ghost use Rattle.model.specs.Words.{is_ready, is_stopped, owns_any};
 ghost use Rattle.answering.specs.Full.{FullIfThere};
 
@@ -39,6 +39,11 @@ pub trait Readable {
     fn has_flags(&self, o: u32) -> bool
         requires { readable self.now }
         ensures { result ≡ has_flags o (state self.now) };
+
+    // Whether what an action of this kind names is there.
+    fn names_object(&self, kind: u32, object: u32) -> bool
+        requires { readable self.now }
+        ensures { result ≡ names_object kind object (state self.now) };
 
     fn is_ready(&self, i: u32) -> bool
         requires { readable self.now }

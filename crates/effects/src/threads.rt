@@ -40,8 +40,8 @@ pub fn stop(image: &mut Image, q: Request)
     ensures { Does image.old (stop_effect q) image.new }
 {
     let i = q.id as usize;
-    let p = threads::current(image, i) as usize;
-    words::leave(image, p, i);
+    let ready = threads::current(image, i) as usize;
+    words::leave(image, ready, i);
     words::enter_tail(image, STOPPED_LIST, i);
 }
 

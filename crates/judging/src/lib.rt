@@ -51,6 +51,10 @@ impl Readable for Lent<'_> {
         objects::has_flags(self.image, o)
     }
 
+    fn names_object(&self, kind: u32, object: u32) -> bool {
+        objects::names_object(self.image, kind, object)
+    }
+
     fn is_ready(&self, i: u32) -> bool {
         standing::is_ready(self.image, i)
     }

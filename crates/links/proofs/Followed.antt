@@ -32,6 +32,9 @@ use Rattle.links.proofs.Marks.{mark-none, unmarked, marked-counted, mark-empty, 
 pub refused : {through orderly : Type 0} → (orderly → ⊥) → Tells false through orderly
 refused d = record { passed = λ e. absurd (false≢true e); failed = λ e. d }
 
+pub passes : {through orderly : Type 0} → through → Tells true through orderly
+passes p = record { passed = λ e. p; failed = λ e. absurd (false≢true (sym e)) }
+
 pub told : {through orderly : Type 0} (a b : ℕ) → (a ≡ b → through) → ((a ≡ b → ⊥) → orderly → ⊥) → Tells (eqb a b) through orderly
 told a b p d = record { passed = λ e. p (eqb-true a b e); failed = λ e. d (eqb-false a b e) }
 

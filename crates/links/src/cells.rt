@@ -36,29 +36,31 @@ pub fn untie(links: &mut [u8], at: usize, y: usize, i: usize)
     links[at + i] = 0;
 }
 
-// The first of the M lists whose links stand from a place on that has this link.
-pub fn first_with<const M: usize>(links: &[u8], from: usize, link: u8) -> Option<usize>
-    requires { from + M ≤ length links.now }
-    ensures { result ≡ position (λ x. eqb x link) (slice_range links.now from (from + M)) }
+// The first of the m lists whose links stand from a place on that has this link.
+pub fn first_with(links: &[u8], m: usize, from: usize, link: u8) -> Option<usize>
+    requires { from + m ≤ length links.now }
+    ensures { result ≡ position (λ x. eqb x link) (slice_range links.now from (from + m)) }
 {
-    links[from..from + M].iter().position(|x| *x == link)
+    links[from..from + m].iter().position(|x| *x == link)
 }
 
 // The cell of the half at `here` whose link leads to i. The other half tells it, unless i is the first there: then it is searched for.
-pub fn before<const N: usize, const M: usize>(
+pub fn before(
     links: &[u8],
+    n: usize,
+    m: usize,
     here: usize,
     there: usize,
     i: usize,
 ) -> Option<usize>
-    requires reads { (here + N + M ≤ length links.now) × (there + i < length links.now) × (i < 255) }
-    requires to_id { get_or links.now (there + i) 0 ≤ N }
-    ensures { Below (N + M) (before N M here there i links.now) result }
+    requires reads { (here + n + m ≤ length links.now) × (there + i < length links.now) × (i < 255) }
+    requires to_id { get_or links.now (there + i) 0 ≤ n }
+    ensures { Below (n + m) (before n m here there i links.now) result }
 {
     let link = links[there + i];
     if link != 0 {
         return Some(id_of(link));
     }
-    let j = first_with::<M>(links, here + N, (i + 1) as u8)?;
-    Some(N + j)
+    let j = first_with(links, m, here + n, (i + 1) as u8)?;
+    Some(n + j)
 }

@@ -8,38 +8,38 @@ ghost use Rattle.links.specs.Cells.{Beside};
 use crate::cells;
 
 // i off its list, where it stands between the cells y and z.
-fn take_out<const N: usize, const M: usize>(links: &mut [u8], y: usize, z: usize, i: usize)
-    requires orderly { Orderly N M links.old }
-    requires beside { Beside N i y z (lists_in N M links.old) }
-    ensures { Linked N M links.new (map (without i) (lists_in N M links.old)) }
+fn take_out(links: &mut [u8], n: usize, m: usize, y: usize, z: usize, i: usize)
+    requires orderly { Orderly n m links.old }
+    requires beside { Beside n i y z (lists_in n m links.old) }
+    ensures { Linked n m links.new (map (without i) (lists_in n m links.old)) }
 {
     cells::untie(links, 0, y, i);
-    cells::untie(links, N + M, z, i);
+    cells::untie(links, n + m, z, i);
 }
 
 // i off every list. Where i is the first or the last of its list, that list is searched for among the firsts or the lasts.
-pub fn leave<const N: usize, const M: usize>(links: &mut [u8], i: usize)
-    requires orderly { Orderly N M links.old }
-    requires i_lt_n { (i < N) × (N < 256) }
-    ensures { Linked N M links.new (map (without i) (lists_in N M links.old)) }
+pub fn leave(links: &mut [u8], n: usize, m: usize, i: usize)
+    requires orderly { Orderly n m links.old }
+    requires i_lt_n { (i < n) × (n < 256) }
+    ensures { Linked n m links.new (map (without i) (lists_in n m links.old)) }
 {
-    let w = N + M;
-    let Some(y) = cells::before::<N, M>(links, 0, w, i) else {
+    let w = n + m;
+    let Some(y) = cells::before(links, n, m, 0, w, i) else {
         return;
     };
-    let Some(z) = cells::before::<N, M>(links, w, 0, i) else {
+    let Some(z) = cells::before(links, n, m, w, 0, i) else {
         return;
     };
-    take_out::<N, M>(links, y, z, i);
+    take_out(links, n, m, y, z, i);
 }
 
 // i off list j, on which it stands: nothing is searched for.
-pub fn leave_list<const N: usize, const M: usize>(links: &mut [u8], j: usize, i: usize)
-    requires orderly { Orderly N M links.old }
-    requires j_lt_m { (j < M) × (0 < count i (get_or (lists_in N M links.old) j [])) }
-    ensures { Linked N M links.new (map (without i) (lists_in N M links.old)) }
+pub fn leave_list(links: &mut [u8], n: usize, m: usize, j: usize, i: usize)
+    requires orderly { Orderly n m links.old }
+    requires j_lt_m { (j < m) × (0 < count i (get_or (lists_in n m links.old) j [])) }
+    ensures { Linked n m links.new (map (without i) (lists_in n m links.old)) }
 {
-    let y = cells::cell_of(N + j, links[N + M + i]);
-    let z = cells::cell_of(N + j, links[i]);
-    take_out::<N, M>(links, y, z, i);
+    let y = cells::cell_of(n + j, links[n + m + i]);
+    let z = cells::cell_of(n + j, links[i]);
+    take_out(links, n, m, y, z, i);
 }

@@ -1,6 +1,6 @@
 // Links that nothing is known of, followed list by list: each id is noted with the list that it is read on, and the walk ends at the first
 // fault. What it leaves to be asked is that who stands on no list has no links.
-ghost use Rattle.std.specs.Prelude.{◌≡◌, ◌+◌, ◌<◌, ◌≤◌, length, MatchOption};
+ghost use Rattle.std.specs.Prelude.{◌≡◌, ◌+◌, ◌<◌, ◌≤◌, length, replicate};
 ghost use Rattle.sequences.specs.Bytes.{part};
 ghost use Rattle.sequences.specs.Links.{Orderly};
 ghost use Rattle.links.specs.Noted.{leads_anew, Through, Noted, Tells};
@@ -8,44 +8,40 @@ ghost use Rattle.links.specs.Noted.{leads_anew, Through, Noted, Tells};
 use crate::cells;
 
 // Nobody, or an id that isn't noted yet.
-fn is_new<const N: usize>(link: u8, marks: &[u8; N]) -> bool
-    ensures { result ≡ leads_anew N marks.now link }
+fn is_new(n: usize, link: u8, marks: &[u8]) -> bool
+    requires { length marks.now ≡ n }
+    ensures { result ≡ leads_anew n marks.now link }
 {
     if link == 0 {
         return true;
     }
     let x = cells::id_of(link);
-    x < N && marks[x] == 0
+    x < n && marks[x] == 0
 }
 
 // List j, of links that stand from a place on in the bytes: who is on it is noted as j + 1. Only the first can have been noted before: another
-// has the one before it as its previous, which nobody else has. The steps are counted by hand, so that it ends: a `for` over N steps is unrolled and
-// no longer inlined, which makes the soundness test a seventh longer.
-fn follow<const N: usize, const M: usize>(
-    bytes: &[u8],
-    at: usize,
-    j: usize,
-    marks: &mut [u8; N],
-) -> bool
-    requires m_in_bounds { (at + (N + M + (N + M)) ≤ length bytes.now) × (j < M) × (M < 256) }
-    requires through { Through N M j (part at (N + M + (N + M)) bytes.now) marks.old }
-    ensures { Tells result (Through N M (j + 1) (part at (N + M + (N + M)) bytes.now) marks.new)
-        (Orderly N M (part at (N + M + (N + M)) bytes.now)) }
+// has the one before it as its previous, which nobody else has. The steps are counted by hand, so that it ends: a `for` over as many was unrolled and
+// no longer inlined, which made the soundness test a seventh longer.
+fn follow(bytes: &[u8], at: usize, n: usize, m: usize, j: usize, marks: &mut [u8]) -> bool
+    requires m_in_bounds { (at + (n + m + (n + m)) ≤ length bytes.now) × (j < m) × (m < 256) }
+    requires through { Through n m j (part at (n + m + (n + m)) bytes.now) marks.old }
+    ensures { Tells result (Through n m (j + 1) (part at (n + m + (n + m)) bytes.now) marks.new)
+        (Orderly n m (part at (n + m + (n + m)) bytes.now)) }
 {
-    let w = N + M;
+    let w = n + m;
     let mut came: u8 = 0;
-    let mut link = bytes[at + N + j];
-    if !is_new(link, marks) {
+    let mut link = bytes[at + n + j];
+    if !is_new(n, link, marks) {
         return false;
     }
     let mut k: usize = 0;
     while link != 0 {
-        if k == N {
+        if k == n {
             return false;
         }
         k += 1;
         let x = cells::id_of(link);
-        if N <= x {
+        if n <= x {
             return false;
         }
         marks[x] = (j + 1) as u8;
@@ -55,20 +51,19 @@ fn follow<const N: usize, const M: usize>(
         came = link;
         link = bytes[at + x];
     }
-    bytes[at + w + N + j] == came
+    bytes[at + w + n + j] == came
 }
 
-// Every list: what is noted of each id, or nothing where the links aren't orderly.
-pub fn note<const N: usize, const M: usize>(bytes: &[u8], at: usize) -> Option<[u8; N]>
-    requires { (at + (N + M + (N + M)) ≤ length bytes.now) × (M < 256) }
-    ensures { MatchOption result (Orderly N M (part at (N + M + (N + M)) bytes.now) → ⊥)
-        (λ marks. Noted N M (part at (N + M + (N + M)) bytes.now) marks) }
+// Every list.
+pub fn note(bytes: &[u8], at: usize, n: usize, m: usize, marks: &mut [u8]) -> bool
+    requires { (at + (n + m + (n + m)) ≤ length bytes.now) × (m < 256) × (marks.old ≡ replicate n 0) }
+    ensures { Tells result (Noted n m (part at (n + m + (n + m)) bytes.now) marks.new)
+        (Orderly n m (part at (n + m + (n + m)) bytes.now)) }
 {
-    let mut marks = [0; N];
-    for j in 0..M {
-        if !follow::<N, M>(bytes, at, j, &mut marks) {
-            return None;
+    for j in 0..m {
+        if !follow(bytes, at, n, m, j, marks) {
+            return false;
         }
     }
-    Some(marks)
+    true
 }

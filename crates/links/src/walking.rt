@@ -9,30 +9,30 @@ ghost use Rattle.links.specs.Walks.{Behind, Ranked, ReadOut};
 use crate::cells;
 
 // The link to the first of list j.
-pub fn first<const N: usize, const M: usize>(links: &[u8], j: usize) -> u8
-    requires orderly { Orderly N M links.now }
-    requires j_lt_m { j < M }
-    ensures { result ≡ head_link (get_or (lists_in N M links.now) j []) }
+pub fn first(links: &[u8], n: usize, m: usize, j: usize) -> u8
+    requires orderly { Orderly n m links.now }
+    requires j_lt_m { j < m }
+    ensures { result ≡ head_link (get_or (lists_in n m links.now) j []) }
 {
-    links[N + j]
+    links[n + j]
 }
 
 // Whether two or more stand on list j: then its first and its last differ.
-pub fn is_shared<const N: usize, const M: usize>(links: &[u8], j: usize) -> bool
-    requires orderly { Orderly N M links.now }
-    requires j_lt_m { j < M }
-    ensures { result ≡ leb 2 (length (get_or (lists_in N M links.now) j [])) }
+pub fn is_shared(links: &[u8], n: usize, m: usize, j: usize) -> bool
+    requires orderly { Orderly n m links.now }
+    requires j_lt_m { j < m }
+    ensures { result ≡ leb 2 (length (get_or (lists_in n m links.now) j [])) }
 {
-    links[N + j] != links[N + M + (N + j)]
+    links[n + j] != links[n + m + (n + j)]
 }
 
 // The cell of list j that k of its ids lead up to.
-pub fn cell_at<const N: usize, const M: usize>(links: &[u8], j: usize, k: usize) -> usize
-    requires orderly { Orderly N M links.now }
-    requires j_lt_m { (j < M) × (k ≤ length (get_or (lists_in N M links.now) j [])) }
-    ensures { Behind N j (get_or (lists_in N M links.now) j []) k result }
+pub fn cell_at(links: &[u8], n: usize, m: usize, j: usize, k: usize) -> usize
+    requires orderly { Orderly n m links.now }
+    requires j_lt_m { (j < m) × (k ≤ length (get_or (lists_in n m links.now) j [])) }
+    ensures { Behind n j (get_or (lists_in n m links.now) j []) k result }
 {
-    let mut y = N + j;
+    let mut y = n + j;
     for _ in 0..k {
         y = cells::id_of(links[y]);
     }
@@ -47,21 +47,23 @@ pub struct Spot {
 }
 
 // Where the first of list j stands whose value is lower than p; at the end where none is. The value of id x is values[from + stride * x].
-pub fn rank<const N: usize, const M: usize>(
+pub fn rank(
     links: &[u8],
+    n: usize,
+    m: usize,
     j: usize,
     values: &[u8],
     from: usize,
     stride: usize,
     p: u8,
 ) -> Spot
-    requires orderly { Orderly N M links.now }
-    requires j_lt_m { j < M }
-    requires by_index { (x : ℕ) → x < N → from + stride * x < length values.now }
-    ensures { Ranked N j (get_or (lists_in N M links.now) j [])
+    requires orderly { Orderly n m links.now }
+    requires j_lt_m { j < m }
+    requires by_index { (x : ℕ) → x < n → from + stride * x < length values.now }
+    ensures { Ranked n j (get_or (lists_in n m links.now) j [])
         (λ x. ltb (get_or values.now (from + stride * x) 0) p) result.place result.cell }
 {
-    let mut y = N + j;
+    let mut y = n + j;
     let mut k: usize = 0;
     while links[y] != 0 {
         let x = cells::id_of(links[y]);
@@ -75,12 +77,12 @@ pub fn rank<const N: usize, const M: usize>(
 }
 
 // The ids of list j in order, from the first place of a row on, and how many there are.
-pub fn read<const N: usize, const M: usize>(links: &[u8], j: usize, out: &mut [u8; N]) -> usize
-    requires orderly { Orderly N M links.now }
-    requires j_lt_m { (j < M) × (N < 256) }
-    ensures { ReadOut (get_or (lists_in N M links.now) j []) result out.old out.new }
+pub fn read(links: &[u8], n: usize, m: usize, j: usize, out: &mut [u8]) -> usize
+    requires orderly { Orderly n m links.now }
+    requires j_lt_m { (j < m) × (length out.old ≡ n) × (n < 256) }
+    ensures { ReadOut (get_or (lists_in n m links.now) j []) result out.old out.new }
 {
-    let mut y = N + j;
+    let mut y = n + j;
     let mut k: usize = 0;
     while links[y] != 0 {
         y = cells::id_of(links[y]);
@@ -90,16 +92,16 @@ pub fn read<const N: usize, const M: usize>(links: &[u8], j: usize, out: &mut [u
     k
 }
 
-// The list that i stands on, or M: the walk back ends at its first, which the search among the firsts finds.
-pub fn list_of<const N: usize, const M: usize>(links: &[u8], i: usize) -> usize
-    requires orderly { Orderly N M links.now }
-    requires i_lt_n { (i < N) × (N < 256) }
-    ensures { result ≡ first_at (among i) (lists_in N M links.now) }
+// The list that i stands on, or m: the walk back ends at its first, which the search among the firsts finds.
+pub fn list_of(links: &[u8], n: usize, m: usize, i: usize) -> usize
+    requires orderly { Orderly n m links.now }
+    requires i_lt_n { (i < n) × (n < 256) }
+    ensures { result ≡ first_at (among i) (lists_in n m links.now) }
 {
-    let w = N + M;
+    let w = n + m;
     let mut x = i;
     while links[w + x] != 0 {
         x = cells::id_of(links[w + x]);
     }
-    cells::first_with::<M>(links, N, (x + 1) as u8).unwrap_or(M)
+    cells::first_with(links, m, n, (x + 1) as u8).unwrap_or(m)
 }

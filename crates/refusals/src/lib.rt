@@ -49,6 +49,10 @@ impl Readable for Stored<'_> {
         objects::flags_there(self.table.flags, o)
     }
 
+    fn names_object(&self, kind: u32, object: u32) -> bool {
+        objects::names_object(self.table.semaphores, self.table.flags, kind, object)
+    }
+
     fn is_ready(&self, i: u32) -> bool {
         i < 16 && standing::is_ready(*self.table, *self.rows, i as u8)
     }

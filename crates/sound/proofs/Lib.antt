@@ -1,3 +1,4 @@
+pub mod Endings
 pub mod OneNumber
 pub mod Marks
 pub mod Places

@@ -19,9 +19,10 @@ mod timers;
 fn is_sound_image(image: &Image) -> bool
     ensures { result ≡ sound_image image.now }
 {
-    let Some(marks) = links::noting::note::<THREAD_COUNT, LINKED_LISTS>(image, LINKS) else {
+    let mut marks = [0; THREAD_COUNT];
+    if !links::noting::note(image, LINKS, THREAD_COUNT, LINKED_LISTS, &mut marks) {
         return false;
-    };
+    }
     threads::threads_fit(image, &marks)
         && choice::choice_fits(image, &marks)
         && objects::objects_fit(image, &marks)

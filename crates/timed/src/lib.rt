@@ -22,7 +22,7 @@ use fields::places::Image;
 use model::answers::Report;
 use model::requests::Request;
 use rules::counting::NEVER;
-use rules::{counting, numbers};
+use rules::{counting, numbers, scheduling};
 use untimed::next;
 use words::choosing;
 
@@ -177,7 +177,7 @@ pub fn timed(image: &mut Image, q: Request) -> Report
     ensures report { result ≡ (call (view image.old) q).report }
     ensures image { image.new ≡ lay (call (view image.old) q).after }
 {
-    let answer = judging::answer(image, q);
+    let answer = scheduling::answer(q);
     if !numbers::is_accepted(answer) {
         let next = next::next_wake_up(image);
         return untimed::told(image, answer, 0, next);

@@ -54,7 +54,7 @@ pub fn quantum_left(image: &Image) -> u16
         return 0;
     }
     let p = threads::current(image, i) as usize;
-    if !walking::is_shared::<THREAD_COUNT, LINKED_LISTS>(&image[LINKS..IMAGE_LENGTH], p) {
+    if !walking::is_shared(&image[LINKS..IMAGE_LENGTH], THREAD_COUNT, LINKED_LISTS, p) {
         return 0;
     }
     threads::left(image, i)

@@ -17,7 +17,7 @@ pub fn list_of(image: &Image, i: usize) -> usize
     requires { Given image.now i }
     ensures { result ≡ first_at (among i) (lists_of image.now) }
 {
-    walking::list_of::<THREAD_COUNT, LINKED_LISTS>(&image[LINKS..IMAGE_LENGTH], i)
+    walking::list_of(&image[LINKS..IMAGE_LENGTH], THREAD_COUNT, LINKED_LISTS, i)
 }
 
 // Off list l, on which it stands, so that nothing is searched for.
@@ -25,15 +25,23 @@ pub fn leave(image: &mut Image, l: usize, i: usize)
     requires { On image.old l i }
     ensures { Does image.old (leave i) image.new }
 {
-    leaving::leave_list::<THREAD_COUNT, LINKED_LISTS>(&mut image[LINKS..IMAGE_LENGTH], l, i);
+    leaving::leave_list(
+        &mut image[LINKS..IMAGE_LENGTH],
+        THREAD_COUNT,
+        LINKED_LISTS,
+        l,
+        i,
+    );
 }
 
 pub fn enter_tail(image: &mut Image, j: usize, i: usize)
     requires { OffFor image.old j i }
     ensures { Does image.old (enter_tail j i) image.new }
 {
-    entering::enter_tail::<THREAD_COUNT, LINKED_LISTS>(
+    entering::enter_tail(
         &mut image[LINKS..IMAGE_LENGTH],
+        THREAD_COUNT,
+        LINKED_LISTS,
         PRIORITY_COUNT + j,
         i,
     );
@@ -44,7 +52,13 @@ pub fn enter_ready(image: &mut Image, i: usize)
     ensures { Does image.old (enter_ready i) image.new }
 {
     let p = threads::current(image, i) as usize;
-    entering::enter_tail::<THREAD_COUNT, LINKED_LISTS>(&mut image[LINKS..IMAGE_LENGTH], p, i);
+    entering::enter_tail(
+        &mut image[LINKS..IMAGE_LENGTH],
+        THREAD_COUNT,
+        LINKED_LISTS,
+        p,
+        i,
+    );
 }
 
 // Where thread i belongs on list j: past everyone with the same current priority or a higher one (01, Calls, on entering a wait list). The walk
@@ -55,8 +69,10 @@ fn rank(image: &Image, j: usize, i: usize) -> Spot
     ensures { Spotted image.now j i result.place result.cell }
 {
     let p = threads::current(image, i);
-    walking::rank::<THREAD_COUNT, LINKED_LISTS>(
+    walking::rank(
         &image[LINKS..IMAGE_LENGTH],
+        THREAD_COUNT,
+        LINKED_LISTS,
         PRIORITY_COUNT + j,
         image,
         CURRENTS,
@@ -70,8 +86,10 @@ pub fn enter_by_priority(image: &mut Image, j: usize, i: usize)
     ensures { Does image.old (enter_by_priority j i) image.new }
 {
     let spot = rank(image, j, i);
-    entering::enter_behind::<THREAD_COUNT, LINKED_LISTS>(
+    entering::enter_behind(
         &mut image[LINKS..IMAGE_LENGTH],
+        THREAD_COUNT,
+        LINKED_LISTS,
         PRIORITY_COUNT + j,
         spot.cell,
         i,

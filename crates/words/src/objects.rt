@@ -1,12 +1,13 @@
 // What an id names, and whether that is there. An id or a number may be any of 32 bits.
 ghost use Rattle.std.specs.Prelude.{◌≡◌, ◌<◌, ◌≤◌};
 ghost use Rattle.model.specs.Parts.{semaphore, mutex, flag_object};
-ghost use Rattle.model.specs.Ranges.{has_thread, has_semaphore, has_mutex, has_flags};
+ghost use Rattle.model.specs.Ranges.{has_thread, has_semaphore, has_mutex, has_flags, names_object};
 ghost use Rattle.model.specs.Layout.{view};
 ghost use Rattle.fields.specs.Fields.{Sized};
 
 use fields::places::{FLAGS_COUNT, Image, MUTEX_COUNT, SEMAPHORE_COUNT, THREAD_COUNT};
 use fields::{flags, mutexes, semaphores, threads};
+use model::actions::Action;
 use model::tables::Mutex;
 
 // What is read of the one that an id names, or what holds where it names none.
@@ -41,6 +42,17 @@ pub fn has_flags(image: &Image, o: u32) -> bool
     ensures { result ≡ has_flags o (view image.now) }
 {
     of_named(FLAGS_COUNT, o, |o| flags::created(image, o), 0) == 1
+}
+
+// Whether what an action of this kind names is there.
+pub fn names_object(image: &Image, kind: u32, object: u32) -> bool
+    ensures { result ≡ names_object kind object (view image.now) }
+{
+    match Action::try_from(kind) {
+        Ok(Action::Post) => has_semaphore(image, object),
+        Ok(Action::SetFlags) => has_flags(image, object),
+        Ok(Action::Nothing) | Err(_) => true,
+    }
 }
 
 // ---- of what isn't there every number is 0

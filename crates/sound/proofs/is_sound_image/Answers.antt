@@ -19,7 +19,7 @@ use Rattle.sound.specs.Asked.{threads_asked, objects_asked}
 use Rattle.sound.proofs.ThreadsAsked.{asked-orderly}
 use Rattle.sound.proofs.AskedSound.{followed, asked-sound}
 use Rattle.sound.proofs.is_sound_image.Goals as goal
-use Rattle.sound.proofs.is_sound_image.Goals.{In-Some, then-threads_fit, else-threads_fit}
+use Rattle.sound.proofs.is_sound_image.Goals.{Else-not-note, then-threads_fit, else-threads_fit}
 
 disorderly : (b : List ℕ) → (Orderly 16 26 (links_part b) → ⊥) → false ≡ sound_image b
 unfolding sound_image orderly
@@ -44,31 +44,31 @@ module _ (b marks : List ℕ) (o : Bytes b) (size : Sized b) (n : Noted 16 26 (l
       objects-tell : h ≡ true → {r : Bool} → r ≡ objects_asked marks (view b) → r ≡ sound_image b
       objects-tell f g = g ∙ rw (← is, e, ← head, f) at (asked-sound b marks o size n)
 
-bytes : (e : In-Some) → Bytes e.args.image.now
+bytes : (e : Else-not-note) → Bytes e.args.image.now
 bytes e = bytes_of e.args.image.now e.fits-image
 
-noted : (e : In-Some) → Noted 16 26 (links_part e.args.image.now) e.in-Some.marks
-noted e = e.in-Some.ensures
+noted : (e : Else-not-note) → Noted 16 26 (links_part e.args.image.now) e.note.new.marks
+noted e = e.note.ensures.passed (e.if-not-note.false)
 
-pub returns-in_default : goal.returns-in_default
-returns-in_default c = disorderly _ c.in_default.ensures
+pub returns-then-not-note : goal.returns-then-not-note
+returns-then-not-note c = disorderly _ (c.note.ensures.failed (c.if-not-note.true))
 
 pub threads_fit-requires : goal.threads_fit-requires
-threads_fit-requires c = followed _ _ c.told-image (noted (goal.at.threads_fit-requires c).In-Some)
+threads_fit-requires c = followed _ _ c.told-image (noted (goal.at.threads_fit-requires c).Else-not-note)
 
 pub choice_fits-requires : goal.choice_fits-requires
 choice_fits-requires c =
-    let e = (goal.at.choice_fits-requires c).In-Some in record {
+    let e = (goal.at.choice_fits-requires c).Else-not-note in record {
       followed = followed _ _ c.told-image (noted e);
       orderly = in_order _ _ (bytes e) c.told-image (noted e) c.threads_fit.ensures (c.if-threads_fit.true);
     }
 
 pub objects_fit-requires : goal.objects_fit-requires
-objects_fit-requires c = followed _ _ c.told-image (noted (goal.at.objects_fit-requires c).In-Some)
+objects_fit-requires c = followed _ _ c.told-image (noted (goal.at.objects_fit-requires c).Else-not-note)
 
 pub returns-then-choice_fits : goal.returns-then-choice_fits
 returns-then-choice_fits c =
-    let e = (goal.at.returns-then-choice_fits c).In-Some in
+    let e = (goal.at.returns-then-choice_fits c).Else-not-note in
     elim c.if-threads_fit.branch [
       | then-threads_fit w ↦
           objects-tell _ _ (bytes e) c.told-image (noted e) c.threads_fit.ensures w.if-threads_fit.true w.choice_fits.ensures
@@ -78,7 +78,7 @@ returns-then-choice_fits c =
 
 pub returns-else-choice_fits : goal.returns-else-choice_fits
 returns-else-choice_fits c =
-    let e = (goal.at.returns-else-choice_fits c).In-Some in
+    let e = (goal.at.returns-else-choice_fits c).Else-not-note in
     c.if-choice_fits.false ∙ elim c.if-threads_fit.branch [
       | then-threads_fit w ↦
           choice-fails _ _ (bytes e) c.told-image (noted e) c.threads_fit.ensures w.if-threads_fit.true w.choice_fits.ensures

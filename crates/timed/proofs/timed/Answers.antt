@@ -1,5 +1,6 @@
 -- A refusal leaves the image and has no ticks; else its ticks are those asked for. What is told is what the model tells of the image after them.
 use Rattle.std.proofs.Common.{◌≡◌, ℕ, true, false, eqb, sym, ap, ◌∙◌, ap₂}
+use native.Mathlib.Omega.{arith}
 use Rattle.sequences.specs.Steps.{wakeups}
 use Rattle.model.specs.declared.answers.Answer.{Answer}
 use Rattle.model.specs.declared.requests.Request.{Request}
@@ -33,7 +34,7 @@ unfolding next_state perform
 unmoved a q s refused = rw refused
 
 pub answer-answer-requires : goal.answer-answer-requires
-answer-answer-requires c = sound-whole c.args.image.now c.requires.image_value
+answer-answer-requires c = omega (arith, c.requires.call_value)
 
 pub next_wake_up-next-requires : goal.next_wake_up-next-requires
 next_wake_up-next-requires c = sound-whole c.args.image.now c.requires.image_value
@@ -48,7 +49,7 @@ returns-then-not-is_accepted c =
     let v = view b in
     let a = c.answer-answer.result in
     let fine = view-sound b c.requires.image_value in
-    let given = c.answer-answer.ensures in
+    let given = c.answer-answer.ensures v in
     let refused = sym c.is_accepted.ensures ∙ c.if-not-is_accepted.true in
     let whole = whole-outcome v q fine given (unmoved a q v refused) in record {
       report = c.told.ensures.report
@@ -65,7 +66,7 @@ returns c =
     let v = view b in
     let a = c.answer-answer.result in
     let fine = view-sound b c.requires.image_value in
-    let given = c.answer-answer.ensures in
+    let given = c.answer-answer.ensures v in
     let ok = sym c.is_accepted.ensures ∙ c.if-not-is_accepted.false in
     let asked = ticks-asked a q ok c.requires.call_value in
     let d = c.pass-passed.ensures in

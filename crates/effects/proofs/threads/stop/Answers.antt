@@ -19,11 +19,11 @@ ready s =
       ready = not-false _ (not-due s.requires.allowed 3 refl);
     }
 
-pub current-p-requires : goal.current-p-requires
-current-p-requires c = (ready (goal.at.current-p-requires c).Start).given.thread
+pub current-ready-requires : goal.current-ready-requires
+current-ready-requires c = (ready (goal.at.current-ready-requires c).Start).given.thread
 
 pub leave-requires : goal.leave-requires
-leave-requires c = ready_on c.current-p.ensures (ready (goal.at.leave-requires c).Start)
+leave-requires c = ready_on c.current-ready.ensures (ready (goal.at.leave-requires c).Start)
 
 pub enter_tail-requires : goal.enter_tail-requires
 enter_tail-requires c =

@@ -3,15 +3,15 @@ use native.Mathlib.Omega.{arith}
 use Rattle.links.proofs.Neighbours.{id-reads, told}
 use Rattle.links.proofs.leaving.leave_list.Goals as goal
 
-pub overflow_add-i : goal.overflow_add-i
-overflow_add-i g c = omega (arith, id-reads c.requires.orderly c.args.i c.args.j c.requires.j_lt_m.1)
+pub overflow_add-n-3 : goal.overflow_add-n-3
+overflow_add-n-3 c = omega (arith, id-reads c.requires.orderly c.args.i c.args.j c.requires.j_lt_m.1)
+
+pub bounds-links-n : goal.bounds-links-n
+bounds-links-n c = id-reads c.requires.orderly c.args.i c.args.j c.requires.j_lt_m.1
 
 pub bounds-links-i : goal.bounds-links-i
-bounds-links-i g c = id-reads c.requires.orderly c.args.i c.args.j c.requires.j_lt_m.1
-
-pub bounds-links-i-2 : goal.bounds-links-i-2
-bounds-links-i-2 g c = omega (arith, id-reads c.requires.orderly c.args.i c.args.j c.requires.j_lt_m.1)
+bounds-links-i c = omega (arith, id-reads c.requires.orderly c.args.i c.args.j c.requires.j_lt_m.1)
 
 pub take_out-requires-clause-beside : goal.take_out-requires-clause-beside
-take_out-requires-clause-beside g c =
+take_out-requires-clause-beside c =
     rw (c.cell_of-y.ensures, c.cell_of-z.ensures) (told c.requires.orderly c.args.i c.args.j c.requires.j_lt_m.1)

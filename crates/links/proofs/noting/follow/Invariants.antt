@@ -7,8 +7,8 @@ use Rattle.links.specs.Noted.{Following}
 use Rattle.links.proofs.noting.follow.Given as goal
 
 abbrev pub invariant-loop-link : goal.invariant-loop-link
-invariant-loop-link g l =
-    (Following g.row.N g.row.M l.j (part l.at (g.row.N + g.row.M + (g.row.N + g.row.M)) l.bytes) l.marks l.k l.came l.link) × (l.link < 256) × (l.came ≡ 0 → (l.link ≡ 0 → ⊥) → get_or l.marks (l.link - 1) 0 ≡ 0)
+invariant-loop-link l =
+    (Following l.n l.m l.j (part l.at (l.n + l.m + (l.n + l.m)) l.bytes) l.marks l.k l.came l.link) × (l.link < 256) × (l.came ≡ 0 → (l.link ≡ 0 → ⊥) → get_or l.marks (l.link - 1) 0 ≡ 0)
 
 abbrev pub decreases-loop-link : goal.decreases-loop-link
-decreases-loop-link g l = g.row.N - l.k
+decreases-loop-link l = l.n - l.k

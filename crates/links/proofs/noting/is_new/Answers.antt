@@ -6,16 +6,16 @@ use Rattle.links.proofs.noting.is_new.Goals as goal
 
 pub returns-then-link-eq0 : goal.returns-then-link-eq0
 unfolding leads_anew
-returns-then-link-eq0 g c = rw (eq-eqb c.args.link 0 c.if-link-eq0.true)
+returns-then-link-eq0 c = rw (eq-eqb c.args.link 0 c.if-link-eq0.true)
 
-pub returns-then-x : goal.returns-then-x
+pub returns-then-x-n : goal.returns-then-x-n
 unfolding leads_anew
-returns-then-x g c =
+returns-then-x-n c =
     let a = c.args in
-    rw (c.id_of-x.ensures, ne_eqb a.link 0 c.if-link-eq0.false, le-leb a.link g.row.N (omega arith))
+    rw (c.id_of-x.ensures, ne_eqb a.link 0 c.if-link-eq0.false, le-leb a.link a.n (omega arith))
 
-pub returns-else-x : goal.returns-else-x
+pub returns-else-x-n : goal.returns-else-x-n
 unfolding leads_anew
-returns-else-x g c =
+returns-else-x-n c =
     let a = c.args in
-    rw (le-ltb c.id_of-x.result g.row.N c.if-x.false, ne_eqb a.link 0 c.if-link-eq0.false, lt-leb a.link g.row.N (omega arith))
+    rw (le-ltb c.id_of-x.result a.n c.if-x-n.false, ne_eqb a.link 0 c.if-link-eq0.false, lt-leb a.link a.n (omega arith))

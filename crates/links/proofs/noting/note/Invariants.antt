@@ -5,4 +5,4 @@ use Rattle.links.specs.Noted.{Through}
 use Rattle.links.proofs.noting.note.Given as goal
 
 abbrev pub invariant-loop-j : goal.invariant-loop-j
-invariant-loop-j g l = Through g.row.N g.row.M l.j (part l.at (g.row.N + g.row.M + (g.row.N + g.row.M)) l.bytes) l.marks
+invariant-loop-j l = Through l.n l.m l.j (part l.at (l.n + l.m + (l.n + l.m)) l.bytes) l.marks

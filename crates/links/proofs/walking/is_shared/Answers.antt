@@ -11,7 +11,7 @@ use Rattle.links.proofs.Ways.{set_out, walk_link}
 use Rattle.links.proofs.walking.is_shared.Goals as goal
 
 pub returns : goal.returns
-returns g c =
-    let ls = lists_in g.row.N g.row.M c.args.links.now in
+returns c =
+    let ls = lists_in c.args.n c.args.m c.args.links.now in
     let once : (z : ℕ) → count z (get_or ls c.args.j []) ≤ 1 = λ z. omega (arith, c.requires.orderly.apart.once z, count_all-at z ls c.args.j) in
     shared_by (get_or ls c.args.j []) once (walk_link (set_out c.requires.orderly c.requires.j_lt_m)) (last_is c.requires.orderly c.requires.j_lt_m)

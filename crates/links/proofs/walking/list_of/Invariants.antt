@@ -6,7 +6,7 @@ use Rattle.links.specs.Walks.{Together}
 use Rattle.links.proofs.walking.list_of.Given as goal
 
 abbrev pub invariant-loop-x : goal.invariant-loop-x
-invariant-loop-x g l = Together g.row.N (lists_in g.row.N g.row.M l.links) l.i l.x
+invariant-loop-x l = Together l.n (lists_in l.n l.m l.links) l.i l.x
 
 abbrev pub decreases-loop-x : goal.decreases-loop-x
-decreases-loop-x g l = length (along (leads (drop (g.row.N + g.row.M) l.links)) g.row.N (leads (drop (g.row.N + g.row.M) l.links) l.x))
+decreases-loop-x l = length (along (leads (drop (l.n + l.m) l.links)) l.n (leads (drop (l.n + l.m) l.links) l.x))

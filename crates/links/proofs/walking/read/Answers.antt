@@ -3,17 +3,17 @@ use Rattle.links.proofs.Ways.{walk_reads, walk_count, walk_closer, read_on, read
 use Rattle.links.proofs.walking.read.Goals as goal
 
 pub bounds-links-y : goal.bounds-links-y
-bounds-links-y g c = walk_reads c.loop-y.invariant.way
+bounds-links-y c = walk_reads c.loop-y.invariant.way
 
 pub bounds-out-k : goal.bounds-out-k
-bounds-out-k g c =
+bounds-out-k c =
     omega (arith, walk_count c.loop-y.invariant.way c.loop-y-test.true, c.loop-y.invariant.size)
 
 pub loop-y-smaller : goal.loop-y-smaller
-loop-y-smaller g c = walk_closer c.loop-y.invariant.way c.loop-y-test.true
+loop-y-smaller c = walk_closer c.loop-y.invariant.way c.loop-y-test.true
 
 pub loop-y-preserved : goal.loop-y-preserved
-loop-y-preserved g c = rw c.id_of-y.ensures (read_on c.loop-y.invariant c.loop-y-test.true)
+loop-y-preserved c = rw c.id_of-y.ensures (read_on c.loop-y.invariant c.loop-y-test.true)
 
 pub returns : goal.returns
-returns g c = read_end c.loop-y.invariant c.loop-y-test.false
+returns c = read_end c.loop-y.invariant c.loop-y-test.false

@@ -7,7 +7,7 @@ use Rattle.links.specs.Walks.{Reading}
 use Rattle.links.proofs.walking.read.Given as goal
 
 abbrev pub invariant-loop-y : goal.invariant-loop-y
-invariant-loop-y g l = Reading g.row.N g.row.M l.j l.links l.k l.y l.initial.out l.out
+invariant-loop-y l = Reading l.n l.m l.j l.links l.k l.y l.initial.out l.out
 
 abbrev pub decreases-loop-y : goal.decreases-loop-y
-decreases-loop-y g l = length (get_or (lists_in g.row.N g.row.M l.links) l.j []) - l.k
+decreases-loop-y l = length (get_or (lists_in l.n l.m l.links) l.j []) - l.k
